@@ -5,7 +5,7 @@ use Rattle.client_line.specs.declared.requests.LineOut.{LineOut}
 use Rattle.client_line.specs.declared.requests.LineOut.TheVariants as out
 use Rattle.client_line.specs.declared.line.Held.{Held}
 use Rattle.client_line.specs.declared.line.Held.TheVariants as held
-use Rattle.client_line.specs.Records.{At, Came}
+use Rattle.client_line.specs.Records.{At}
 use Rattle.client_line.specs.Records as line
 use Rattle.client_line.specs.Lines.{after_asked, done, held_in}
 use Rattle.client_line.specs.Feeding.{Fed, fed}
@@ -14,10 +14,8 @@ use Rattle.strand_contract.specs.declared.turns.Start.TheVariants as start
 use Rattle.strand_contract.specs.Actions.{LocalAction, Told, Did, Began, Bytes, Ended, Broken, Ready, Dialled, Refused}
 use Rattle.strand_contract.specs.Actions.{Action, Put, Later, Lost, Close, Log, Dict, Take, Dial, Keep, Timer, Dropped, Run, Offer, Due, Halted, Gone}
 use Rattle.strand_contract.specs.Alone.{moment}
-use Rattle.strand_plans.specs.Questions.{Question}
 use Rattle.strand_plans.specs.Ledgers.{Ledger, has, has_number, numbers, entered}
-use Rattle.strand_plans.specs.Moves.{Move, Done, Unready, Send, Arm, Cancel, HangUp, Set, Look, Ask, End, State, with_sent, with_offer, with_thread, without_thread, with_deadline, without_deadline, hung_up, asked_of, perform}
-use Rattle.strand_plans.specs.Moves as move
+use Rattle.strand_plans.specs.Moves.{Move, Done, Send, Cancel, Ask, State, with_sent, with_offer, with_thread, without_thread, with_deadline, without_deadline, hung_up, asked_of, perform}
 use Rattle.strand_plans.specs.Plans.{state_of, stepped}
 use Rattle.run_contract.specs.declared.turns.RunSeen.{RunSeen}
 use Rattle.run_contract.specs.declared.turns.RunSeen.TheVariants as seen
@@ -31,8 +29,11 @@ use Rattle.connection_plan.specs.Clients.{Stage, Reply, Client, Exchange, Unsent
 use Rattle.connection_plan.specs.Clients as stage
 use Rattle.connection_plan.specs.Services.{Service, Both}
 use Rattle.connection_plan.specs.Timers as timer
-use Rattle.connection_plan.specs.Turns.{continue_reply, is_there, is_all_taken, is_to_close, may_come, wait_more, waits_of, asks_then, change, finish, ask, send, begin_timer, end_timer, let_send, await_body, says, run_turn, tell, lose_at, lose, begin, close_if_taken, refuse, wait_for, heard_by, heard, tell_body, ask_body, answer_body, body_told, taken_answer, answer_asked, waiting, busy_at, busy, flush, settled_at, tells, settle_for, settle}
-use Rattle.connection_plan.specs.Connections.{starts, came_at, ends_at, to_run, is_due, connection_plan}
+use Rattle.connection_plan.specs.Turns.{continue_reply, is_there, is_all_taken, is_to_close, may_come, wait_more, waits_of, asks_then, change, finish, send}
+use Rattle.connection_plan.specs.Turns.{begin_timer, end_timer, let_send, await_body, says, run_turn, tell, lose_at, lose, begin, close_if_taken, refuse}
+use Rattle.connection_plan.specs.Turns.{wait_for, heard_by, heard, tell_body, ask_body, answer_body, taken_answer, waiting, busy_at, busy, flush}
+use Rattle.connection_plan.specs.Turns.{settled_at, tells, settle_for, settle}
+use Rattle.connection_plan.specs.Connections.{came_at, ends_at, to_run, is_due, connection_plan}
 use Rattle.connection_plan.specs.Connections as turns
 use Rattle.connection_plan.specs.Accounts.{Accounts}
 use Rattle.connection_plan.specs.Lifts.{lifted}
@@ -113,7 +114,7 @@ module _ {J R : Type 0} (site : Service J R) (now : ℕ) where
   says-fair said.Over m f b s h =
       end-timer-fair timer.Body (change (λ c. record c { stage = stage.Flush }) m) (λ c t k. f c (record t { client = record t.client { stage = stage.Flush } }) k) b s h
 
-  -- the deeds of a run
+  -- deeds leave the account right: only words send to the client
   lifted-fair : (ds : List Deed) (m : Move J (Both R)) → Fair m → Fair (lifted (says site now) ds m)
   lifted-fair [] m f b s h = f b s h
   lifted-fair (Say w ∷ ds) m f b s h = says-fair w (lifted (says site now) ds m) (lifted-fair ds m f) b s h

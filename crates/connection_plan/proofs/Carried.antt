@@ -1,10 +1,10 @@
--- The deeds of a run within its connection are what its code makes of them, one after the other: each act as it is, each word as it is heard.
-use Rattle.std.proofs.Common.{◌≡◌, ℕ, suc, not, Bool, true, false, List, [], ◌∷◌, ◌++◌, if◌then◌else◌, refl, sym, ap, ◌∙◌}
+-- The acts of a run's turn are acts of its connection's turn, one for one: a step for each deed that is no word.
+use Rattle.std.proofs.Common.{◌≡◌, ℕ, not, Bool, true, false, List, [], ◌∷◌, ◌++◌, refl}
 use Rattle.strand_contract.specs.declared.turns.Act.{Act}
 use Rattle.strand_contract.specs.declared.turns.Act.TheVariants as act
 use Rattle.strand_contract.specs.declared.turns.Place.TheVariants as place
 use Rattle.strand_plans.specs.Ledgers.{Ledger, has, has_number, wants_offer}
-use Rattle.strand_plans.specs.Moves.{Move, Done, State, Performed, with_sent, with_offer, with_thread, without_thread, with_deadline, without_deadline, hung_up, after_act, after_act_if, perform}
+use Rattle.strand_plans.specs.Moves.{Move, Performed, with_sent, with_offer, with_thread, hung_up, after_act_if, perform}
 use Rattle.run_contract.specs.declared.turns.RunAct.{RunAct}
 use Rattle.run_contract.specs.declared.turns.RunAct.TheVariants as made
 use Rattle.run_contract.specs.Deeds as deed
@@ -14,7 +14,7 @@ use Rattle.connection_plan.specs.Services.{Service, Both}
 use Rattle.connection_plan.specs.Turns.{says}
 
 module _ {J R : Type 0} (site : Service J R) (now : ℕ) where
-  -- an act that code made is one of the turn; a word is heard, and what it does is the connection's
+  -- the acts among what a run did, in order
   abbrev pub acts_in : List (RunAct J) → List (Act J)
   acts_in [] = []
   acts_in (made.Act a ∷ rest) = a ∷ acts_in rest
@@ -28,7 +28,7 @@ module _ {J R : Type 0} (site : Service J R) (now : ℕ) where
   IsWord (deed.Say w) = Unit {0}
   IsWord d = ⊥
 
-  -- a deed that is no word: its act, from the ledger in which it is done, and then what follows
+  -- a deed that is no word, and what comes after it: first its act, if it is one in this ledger
   pub deed-carried : (d : Deed) (m : Move J (Both R)) (b : Ledger J) (s : Both R) → (IsWord d → ⊥)
       → perform (lifted_deed (says site now) d m) b s
       ≡ (let p = perform m (deed.ledger_by d b) s in record { state = p.state; acts = acts_in (deed.made_by d b) ++ p.acts })

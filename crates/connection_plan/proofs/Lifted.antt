@@ -1,14 +1,13 @@
--- What the deeds of a run come to within its connection: the words between them change nothing that a run's acts depend on.
+-- Deeds of a run among the words of its connection: no act of the run depends on what a word changes.
 use Rattle.std.proofs.Common.{◌≡◌, ℕ, suc, ◌==◌, ◌||◌, ◌&&◌, not, Bool, true, false, List, [], ◌∷◌, ◌++◌, drop, if◌then◌else◌, refl, sym, ap, ◌∙◌, subst, eqb-true, append-nil, arith}
 use Rattle.std.specs.Prelude.{nat_lt}
-use Rattle.resty_base.specs.declared.names.Ms.{Ms}
 use Rattle.strand_contract.specs.declared.turns.Place.{Place}
 use Rattle.strand_contract.specs.declared.turns.Place.TheVariants as place
 use Rattle.strand_contract.specs.Actions.{same_place}
 use Rattle.strand_contract.specs.declared.turns.Act.TheVariants as act
 use Rattle.strand_contract.specs.Alone.{is_some_left, without, without_place, disarmed}
-use Rattle.strand_plans.specs.Ledgers.{Ledger, has, has_number, is_place, left_at, wants_offer}
-use Rattle.strand_plans.specs.Moves.{Move, added_if, with_sent, with_offer, with_thread, without_thread, with_deadline, without_deadline, hung_up}
+use Rattle.strand_plans.specs.Ledgers.{Ledger, has, has_number, is_place, wants_offer}
+use Rattle.strand_plans.specs.Moves.{Move, added_if, with_sent, with_offer}
 use Rattle.strand_plans.specs.Conditions.{OnlyWakes}
 use Rattle.strand_plans.proofs.Places.{has-without, has-append}
 use Rattle.run_contract.specs.Alike.{AreAlike, own_deadlines}
@@ -19,7 +18,7 @@ use Rattle.connection_plan.specs.Services.{Both}
 use Rattle.connection_plan.specs.Lifts.{lifted}
 use Rattle.connection_plan.proofs.Alike.{alike-refl, alike-trans}
 
--- alike, and the offers of sockets are the same too
+-- ledgers that are alike, in which also the same sockets are in the offer queue and under offer
 pub record SameRun {J : Type 0} (b c : Ledger J) : Type 0 where
   pub alike : AreAlike b c
   pub places : (k : ℕ) → has (place.Sock k) b.places ≡ has (place.Sock k) c.places
@@ -31,7 +30,7 @@ same-run-refl b = record { alike = alike-refl b; places = λ k. refl; begun = λ
 pub same-run-trans : {J : Type 0} (b c d : Ledger J) → SameRun b c → SameRun c d → SameRun b d
 same-run-trans b c d x y = record { alike = alike-trans b c d x.alike y.alike; places = λ k. x.places k ∙ y.places k; begun = λ k. x.begun k ∙ y.begun k }
 
--- ---- deadlines from 2 on, among those
+-- ---- the deadlines of a run among all
 
 high : (k : ℕ) → nat_lt (suc (suc k)) 2 ≡ false
 high k = grind arith
@@ -44,7 +43,7 @@ own-append (d ∷ ds) es = by (own-append ds es) (nat_lt d.0 2)
     by rest true = rest
     by rest false = ap (λ (xs : List (ℕ × ℕ)). d ∷ xs) rest
 
--- one that isn't below is taken out of both
+-- to cancel one of a run's cancels it among those
 own-taken-out : (n : ℕ) → nat_lt n 2 ≡ false → (ds : List (ℕ × ℕ)) → own_deadlines (disarmed n ds) ≡ disarmed n (own_deadlines ds)
 own-taken-out n h [] = refl
 own-taken-out n h (d ∷ ds) = by (own-taken-out n h ds) (n == d.0) refl (nat_lt d.0 2) refl
@@ -69,7 +68,7 @@ own-arms k at ds es h =
     own-append (disarmed (suc (suc k)) ds) one ∙ ap (λ (xs : List (ℕ × ℕ)). xs ++ own_deadlines one) (own-cancels k ds es h)
     ∙ sym (own-append (disarmed (suc (suc k)) es) one)
 
--- ---- a deed, in two ledgers that are the same to the run
+-- ---- a deed in two such ledgers
 
 has-added : (c d : Bool) (k j : ℕ) (ps qs : List Place) → c ≡ d → has (place.Sock j) ps ≡ has (place.Sock j) qs
     → has (place.Sock j) (added_if c (place.Sock k) ps) ≡ has (place.Sock j) (added_if d (place.Sock k) qs)
@@ -126,7 +125,13 @@ pub deed-same : {J : Type 0} (d : Deed) (b c : Ledger J) → SameRun b c → Sam
 deed-same (Ready k) b c x = record {
   alike = record {
     threads = ap (λ (ts : List ℕ). added_if (not (has_number k ts)) k ts) x.alike.threads;
-    armed = x.alike.armed; put_off = x.alike.put_off; taken = x.alike.taken; sent = x.alike.sent; opened = x.alike.opened; count = x.alike.count; asked = x.alike.asked;
+    armed = x.alike.armed;
+    put_off = x.alike.put_off;
+    taken = x.alike.taken;
+    sent = x.alike.sent;
+    opened = x.alike.opened;
+    count = x.alike.count;
+    asked = x.alike.asked;
   };
   places = x.places;
   begun = x.begun;
@@ -134,7 +139,13 @@ deed-same (Ready k) b c x = record {
 deed-same (Unready k) b c x = record {
   alike = record {
     threads = ap (without k) x.alike.threads;
-    armed = x.alike.armed; put_off = x.alike.put_off; taken = x.alike.taken; sent = x.alike.sent; opened = x.alike.opened; count = x.alike.count; asked = x.alike.asked;
+    armed = x.alike.armed;
+    put_off = x.alike.put_off;
+    taken = x.alike.taken;
+    sent = x.alike.sent;
+    opened = x.alike.opened;
+    count = x.alike.count;
+    asked = x.alike.asked;
   };
   places = x.places;
   begun = x.begun;
@@ -142,7 +153,13 @@ deed-same (Unready k) b c x = record {
 deed-same (Arm k at) b c x = record {
   alike = record {
     armed = own-arms k at.0 b.armed c.armed x.alike.armed;
-    threads = x.alike.threads; put_off = x.alike.put_off; taken = x.alike.taken; sent = x.alike.sent; opened = x.alike.opened; count = x.alike.count; asked = x.alike.asked;
+    threads = x.alike.threads;
+    put_off = x.alike.put_off;
+    taken = x.alike.taken;
+    sent = x.alike.sent;
+    opened = x.alike.opened;
+    count = x.alike.count;
+    asked = x.alike.asked;
   };
   places = x.places;
   begun = x.begun;
@@ -150,7 +167,13 @@ deed-same (Arm k at) b c x = record {
 deed-same (Cancel k) b c x = record {
   alike = record {
     armed = own-cancels k b.armed c.armed x.alike.armed;
-    threads = x.alike.threads; put_off = x.alike.put_off; taken = x.alike.taken; sent = x.alike.sent; opened = x.alike.opened; count = x.alike.count; asked = x.alike.asked;
+    threads = x.alike.threads;
+    put_off = x.alike.put_off;
+    taken = x.alike.taken;
+    sent = x.alike.sent;
+    opened = x.alike.opened;
+    count = x.alike.count;
+    asked = x.alike.asked;
   };
   places = x.places;
   begun = x.begun;
@@ -158,7 +181,13 @@ deed-same (Cancel k) b c x = record {
 deed-same (HangUp k) b c x = record {
   alike = record {
     opened = λ j. shut-same k j b.opened c.opened (x.alike.opened j);
-    armed = x.alike.armed; threads = x.alike.threads; put_off = x.alike.put_off; taken = x.alike.taken; sent = x.alike.sent; count = x.alike.count; asked = x.alike.asked;
+    armed = x.alike.armed;
+    threads = x.alike.threads;
+    put_off = x.alike.put_off;
+    taken = x.alike.taken;
+    sent = x.alike.sent;
+    count = x.alike.count;
+    asked = x.alike.asked;
   };
   places = x.places;
   begun = x.begun;
@@ -167,7 +196,7 @@ deed-same (Send k bytes) b c x = offered-same k (with_sent (place.Sock k) bytes 
 deed-same (Log line) b c x = x
 deed-same (Say w) b c x = x
 
--- and it is made known by the same act
+-- it is the same act in both
 pub made-same : {J : Type 0} (d : Deed) (b c : Ledger J) → SameRun b c → made_by d b ≡ made_by d c
 made-same (Ready k) b c x = ap (λ (ts : List ℕ). made_if (not (has_number k ts)) (act.Ready k)) x.alike.threads
 made-same (HangUp k) b c x = ap (λ (o : Bool). made_if o (act.HangUp (place.Sock k))) (x.alike.opened k)
@@ -179,7 +208,7 @@ made-same (Cancel k) b c x = refl
 made-same (Log line) b c x = refl
 made-same (Say w) b c x = refl
 
--- ---- by their form
+-- ---- deeds that only wake
 
 pub lifted-wakes : {J R : Type 0} (says : Said → Move J (Both R) → Move J (Both R)) (ds : List Deed) (m : Move J (Both R)) → deeds.OnlyWakes ds → OnlyWakes m → OnlyWakes (lifted says ds m)
 lifted-wakes says [] m h k = k

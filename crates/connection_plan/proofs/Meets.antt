@@ -1,5 +1,5 @@
 -- A connection over a lawful run meets the conditions of a strand that goes by moves.
-use Rattle.std.proofs.Common.{◌≡◌, ℕ, zero, suc, ◌+◌, ◌≤◌, Bool, true, false, ◌||◌, List, [], ◌++◌, drop, length, Some, None, if◌then◌else◌, refl, sym, ap, ◌∙◌, subst, arith, length-append}
+use Rattle.std.proofs.Common.{◌≡◌, ℕ, zero, suc, ◌+◌, ◌≤◌, Bool, true, false, ◌||◌, List, [], drop, length, Some, None, if◌then◌else◌, refl, sym, ap, ◌∙◌, subst, arith, length-append}
 use Rattle.std.specs.Prelude.{nat_lt}
 use Rattle.strand_contract.specs.declared.turns.Place.{Place}
 use Rattle.strand_contract.specs.declared.turns.Place.TheVariants as place
@@ -15,7 +15,7 @@ use Rattle.strand_contract.specs.PrefixLaws.{taken-are}
 use Rattle.strand_plans.specs.Questions.{Question, asking_if}
 use Rattle.strand_plans.specs.Questions as question
 use Rattle.strand_plans.specs.Ledgers.{Ledger, empty_ledger, has, has_number, numbers, is_place, left_at, entered}
-use Rattle.strand_plans.specs.Moves.{Move, Done, End, State, perform}
+use Rattle.strand_plans.specs.Moves.{Move, Done, State, perform}
 use Rattle.strand_plans.specs.Moves as move
 use Rattle.strand_plans.specs.Plans.{stepped, unborn_state}
 use Rattle.strand_plans.specs.Turns.{Comes, IsTaken, IsDue}
@@ -31,7 +31,7 @@ use Rattle.run_contract.specs.Alike.{AreAlike}
 use Rattle.run_contract.specs.Deeds as deeds
 use Rattle.run_contract.specs.Deeds.{Turn, Asks, Nothing, IsQuiet, taken, within, ledger_after, ledger_asking}
 use Rattle.run_contract.specs.Runs.{waits_at_first}
-use Rattle.run_contract.specs.Conditions.{IsBlank, IsRun, MayCome, IsTakenOf, IsUnasked, MayComeAt, next_piece, entered_as}
+use Rattle.run_contract.specs.Conditions.{IsBlank, IsRun, MayCome, IsTakenOf, MayComeAt, next_piece, entered_as}
 use Rattle.run_contract.specs.StoredLaws.{own-due, not-below}
 use Rattle.connection_plan.specs.Clients.{Stage}
 use Rattle.connection_plan.specs.Clients as stage
@@ -39,14 +39,14 @@ use Rattle.connection_plan.specs.Services.{Service, Both}
 use Rattle.connection_plan.specs.Timers.{number_of}
 use Rattle.connection_plan.specs.Timers as timer
 use Rattle.client_line.specs.Feeding.{Fed, fed}
-use Rattle.connection_plan.specs.Turns.{begin_timer, end_timer, finish, asks_then, says, waits_of, run_turn, tell, lose_at, lose, settle}
+use Rattle.connection_plan.specs.Turns.{begin_timer, end_timer, finish, asks_then, says, run_turn, tell, lose_at, lose, settle}
 use Rattle.connection_plan.specs.Connections.{starts, came_at, ends_at, to_run, is_due, connection_plan}
 use Rattle.connection_plan.specs.Connections as turns
 use Rattle.connection_plan.specs.Conditions.{Agrees, Knows, MayAsk}
 use Rattle.connection_plan.proofs.Alike.{still-alike, AtClient, client-alike, due-alike}
 use Rattle.connection_plan.proofs.Lifted.{SameRun, lifted-wakes}
 use Rattle.connection_plan.proofs.Steps.{Follows, begins-leads, ends-leads, sends-leads, awaits-leads, turn-leads}
-use Rattle.connection_plan.proofs.Stays.{Known, Answered, IsAfter, settled-so, within-of, answered-of, within-alike, within-follows, finishes, turn-keeps, told-keeps, done-keeps, lose-keeps, heard-keeps, settle-keeps}
+use Rattle.connection_plan.proofs.Stays.{Known, IsAfter, settled-so, within-of, answered-of, within-alike, within-follows, finishes, turn-keeps, told-keeps, done-keeps, lose-keeps, heard-keeps, settle-keeps}
 
 none-some : {A C : Type 0} (x : A) → None ≡ Some x → C
 none-some x e = absurd (let g : None ≡ Some x = e in cc)
@@ -95,7 +95,7 @@ module _ {J R : Type 0} (site : Service J R) (now : ℕ) (holds : Ledger J → R
       subst (λ (st : Stage). Agrees site.runs holds st c t.run) (sym x.stage)
       (agrees-alike st b c t.run x.same.alike (subst (λ (r : R). Agrees site.runs holds st b r) (sym x.run) h))
 
-  -- what settles goes on from wherever a turn leads
+  -- a turn, and settling after it
   settles : (t : Turn J R) (s : Both R) (c : Ledger J) (u : Both R) → IsAfter site now holds run t s c u → On (settle site now) c u
   settles t s c u x = settle-keeps site now holds run c u x.known
 

@@ -20,7 +20,6 @@ use Rattle.strand_contract.specs.declared.turns.Start.TheVariants as start
 use Rattle.strand_contract.specs.Actions.{LocalAction, Told, Did, Began, Bytes, Ended, Broken, Ready, Dialled, Refused, same_place}
 use Rattle.strand_contract.specs.Actions.{Action, Put, Later, Lost, Close, Log, Dict, Take, Dial, Keep, Timer, Dropped, Run, Offer, Due, Halted, Gone}
 use Rattle.strand_contract.specs.Alone.{moment, is_open, Enabled, IsExecution}
-use Rattle.strand_plans.specs.Questions.{Question}
 use Rattle.strand_plans.specs.Ledgers.{Ledger, has, has_number, numbers, entered}
 use Rattle.strand_plans.specs.Moves.{Move, Done, Unready, Send, Arm, Cancel, HangUp, Set, Look, Ask, End, with_sent, with_offer, with_thread, without_thread}
 use Rattle.strand_plans.specs.Moves.{with_deadline, without_deadline, hung_up, asked_of, ended, perform}
@@ -35,14 +34,14 @@ use Rattle.run_contract.specs.Deeds as deed
 use Rattle.run_contract.specs.Deeds.{Deed, Say, Asks, Turn}
 use Rattle.run_contract.specs.declared.turns.Asking.TheVariants as asking
 use Rattle.run_contract.specs.declared.turns.Asking as questions
-use Rattle.connection_plan.specs.Clients.{Stage, Reply, Client, Exchange, Unsent, Begun, Whole, Times, new_client, exchange, with_more, closes_after}
+use Rattle.connection_plan.specs.Clients.{Stage, Reply, Client, Exchange, Unsent, Begun, Whole, with_more, closes_after}
 use Rattle.connection_plan.specs.Clients as stage
 use Rattle.connection_plan.specs.Services.{Service, Both}
 use Rattle.connection_plan.specs.Timers as timer
 use Rattle.connection_plan.specs.Turns.{continue_reply, is_there, is_all_taken, is_to_close, may_come, wait_more, waits_of, asks_then, answer_body, taken_answer, waiting, busy_at, change, finish, send, begin_timer, end_timer}
 use Rattle.connection_plan.specs.Turns.{let_send, await_body, says, run_turn, tell, lose_at, lose, begin, close_if_taken, refuse, wait_for, heard_by, heard}
 use Rattle.connection_plan.specs.Turns.{tell_body, ask_body, busy, flush, settled_at, tells, settle_for, settle}
-use Rattle.connection_plan.specs.Connections.{starts, came_at, ends_at, to_run, is_due, connection_plan, connection_behavior}
+use Rattle.connection_plan.specs.Connections.{came_at, ends_at, to_run, is_due, connection_plan, connection_behavior}
 use Rattle.connection_plan.specs.Connections as turns
 use Rattle.connection_plan.specs.Asked.{bytes_of, asked_so_far, AsksInOrder}
 use Rattle.connection_plan.specs.InStep.{IsInStep}
@@ -95,7 +94,7 @@ Runs job all c = (c.stage ≡ stage.Busy) × AtStage stage.Busy job all c
 runs-hold : (job : Bool) (all : List ℕ) (c : Client) → Runs job all c → Holds job all c
 runs-hold job all c r = subst (λ (st : Stage). AtStage st job all c) (sym r.0) r.1
 
--- a run goes on, or has just said that it is over
+-- the stage while deeds are done: busy, or past the word that ends the run
 abbrev Going : Bool → List ℕ → Client → Type 0
 Going job all c = ((c.stage ≡ stage.Busy) ⊎ (c.stage ≡ stage.Flush)) × AtStage stage.Busy job all c
 
@@ -263,7 +262,7 @@ module _ {J R : Type 0} (site : Service J R) (now : ℕ) (job : Bool) (all : Lis
       end-timer-from (Going job all) timer.Body (change (λ c. record c { stage = stage.Flush }) m)
       (λ c t k q. f c (record t { client = record t.client { stage = stage.Flush } }) k (inr refl, q.1)) b s k r
 
-  -- the deeds of a run
+  -- deeds keep the order: their words send for the newest exchange
   lifted-from : (ds : List Deed) (m : Move J (Both R)) → Leads (Holds job all) m → Leads (Going job all) (lifted (says site now) ds m)
   lifted-from [] m f b s k q = f b s k (going-hold job all s.client q)
   lifted-from (Say w ∷ ds) m f b s k q = says-from w (lifted (says site now) ds m) (lifted-from ds m f) b s k q

@@ -1,4 +1,4 @@
--- The deeds of a run leave what is the client's as it is: its place, what was sent to it and taken, its offer, and the deadlines 0 and 1.
+-- What deeds of a run leave as it was, since they have no name for it: the client's place, what was sent to it and taken, its offer, and deadlines 0 and 1.
 use Rattle.std.proofs.Common.{◌≡◌, ℕ, suc, ◌<◌, ◌≤◌, Bool, true, false, ◌||◌, ◌==◌, List, [], ◌∷◌, ◌++◌, if◌then◌else◌, refl, sym, ap, ◌∙◌, eqb-true, arith}
 use Rattle.resty_base.specs.declared.names.Ms.{Ms}
 use Rattle.strand_contract.specs.declared.turns.Place.{Place}

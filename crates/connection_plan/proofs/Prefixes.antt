@@ -120,13 +120,13 @@ module _ {J R : Type 0} (site : Service J R) (now : ℕ) where
   says-precedes said.Over b s m =
       both-precede (end_timer site now timer.Body) (change (λ c. record c { stage = stage.Flush })) b s (end_timer-precedes timer.Body b s) (λ m. refl) m
 
-  -- an act, where there is one, and then a prefix
+  -- a prefix behind an act that is there or not
   act-precedes : (c : Bool) (a : Act J) (f : Move J (Both R) → Move J (Both R)) (b : Ledger J) (s : Both R) → Precedes f b s → (m : Move J (Both R))
       → after_act_if c a (perform (f m) b s) ≡ followed (after_act_if c a (perform (f Done) b s)) m
   act-precedes true a f b s h m = ap (after_act_if true a) (h m)
   act-precedes false a f b s h m = ap (after_act_if false a) (h m)
 
-  -- the deeds of a run
+  -- deeds before other moves come to a prefix of all
   pub deeds-precede : (ds : List Deed) (b : Ledger J) (s : Both R) → Precedes (lifted (says site now) ds) b s
   deeds-precede [] b s m = refl
   deeds-precede (Say w ∷ ds) b s m =

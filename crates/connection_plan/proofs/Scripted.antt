@@ -1,10 +1,8 @@
 -- What connections of runs by a script do: each row computes, once the bytes that come are read as the request that they are.
-use Rattle.std.proofs.Common.{◌≡◌, ℕ, List, [], ◌∷◌, refl, subst}
+use Rattle.std.proofs.Common.{◌≡◌, ℕ, true, false, List, [], ◌∷◌, refl, subst}
 use Rattle.std.specs.Prelude.{codes}
-use Rattle.http_in.specs.declared.framing.BodyKind.{BodyKind}
 use Rattle.http_in.specs.declared.framing.BodyKind.TheVariants as kind
 use Rattle.strand_contract.specs.declared.turns.Place.TheVariants as place
-use Rattle.strand_contract.specs.declared.turns.Act.{Act}
 use Rattle.strand_contract.specs.declared.turns.Act.TheVariants as act
 use Rattle.strand_contract.specs.Actions.{LocalAction, Did, Ended, Later, Offer}
 use Rattle.strand_plans.specs.Ledgers.{entered}
@@ -12,7 +10,7 @@ use Rattle.strand_plans.specs.Moves.{State, Performed, perform}
 use Rattle.strand_plans.specs.Plans.{state_of, stepped}
 use Rattle.client_line.specs.Feeding.{Fed}
 use Rattle.run_contract.specs.declared.turns.Asking.TheVariants as asking
-use Rattle.run_contract.specs.Deeds.{Deed, Send}
+use Rattle.run_contract.specs.Deeds.{Send}
 use Rattle.connection_plan.specs.Clients as stage
 use Rattle.connection_plan.specs.Services.{Both}
 use Rattle.connection_plan.specs.Turns.{heard, settle_for}

@@ -23,7 +23,7 @@ module _ {J R : Type 0} (site : Service J R) (now : ℕ) (holds : Ledger J → R
 
   -- ---- a run goes on
 
-  -- what it asks is answered
+  -- its question is answered
   pub settles-asked : s.client.stage ≡ stage.Busy → (q : Asking) → (site.runs.waits s.run).asks ≡ Some q → SettlesAs (answer_asked site now (settle site now) b s.client q)
   settles-asked at q e = at-stage stage.Busy at ∙ ap (λ (o : Option Asking). perform (busy_at site now o (settle site now) b s) b s) e
 

@@ -22,14 +22,14 @@ use Rattle.run_contract.specs.declared.turns.Asking.TheVariants as asking
 use Rattle.run_contract.specs.Deeds.{Turn, Asks, Nothing, Outside, Within}
 use Rattle.run_contract.specs.Runs.{Waits, waits_at_first, waits_told, is_of_client}
 use Rattle.run_contract.specs.Alike.{AreAlike}
-use Rattle.run_contract.specs.Conditions.{IsBlank, IsRun, MayCome, MayHear, Leaves, asks_body, asks_taken, entered_as}
-use Rattle.connection_plan.specs.Clients.{Stage, Reply, Client, Unsent, Begun, Whole, with_request, with_more, begun, closes_after}
+use Rattle.run_contract.specs.Conditions.{IsBlank, IsRun, MayCome, MayHear, Leaves, asks_body, entered_as}
+use Rattle.connection_plan.specs.Clients.{Stage, Client, with_request, closes_after}
 use Rattle.connection_plan.specs.Clients as stage
 use Rattle.connection_plan.specs.Services.{Service, Both}
 use Rattle.connection_plan.specs.Timers.{Timer, number_of}
 use Rattle.connection_plan.specs.Timers as timer
-use Rattle.connection_plan.specs.Turns.{is_there, is_all_taken, asks_then, says, wait_more, answer_body, answer_asked, waiting, busy_at, let_send, begin_timer, end_timer, finish, run_turn, tell, lose, begin, heard_by, next, body_told, tell_body, ask_body, is_to_close, busy, flush, settled_at, tells, settle_for, settle}
-use Rattle.connection_plan.specs.Conditions.{Agrees}
+use Rattle.connection_plan.specs.Turns.{is_there, is_all_taken, asks_then, says, wait_more, answer_body, waiting, busy_at, end_timer, finish, run_turn, tell, lose, begin, heard_by, next, body_told, tell_body, ask_body, is_to_close, busy, flush, settled_at, tells, settle_for, settle}
+use Rattle.connection_plan.specs.Conditions.{AgreesWithin}
 use Rattle.connection_plan.proofs.Alike.{alike-refl, blank-alike, cancelled-alike}
 use Rattle.connection_plan.specs.Lifts.{lifted}
 use Rattle.connection_plan.proofs.Lifted.{same-run-refl}
@@ -124,7 +124,7 @@ module _ {J R : Type 0} (site : Service J R) (now : ℕ) (holds : Ledger J → R
 
   -- ---- what a run waits for
 
-  -- it is told of its body, after the timer of that ended
+  -- the body's timer ends, and the run is told
   told-agrees : (x : RunSeen) (m n : Move J (Both R)) (b : Ledger J) (s : Both R) → s.client.stage ≡ stage.Busy → holds b s.run → b.asked ≡ None
       → is_of_client x ≡ true → ((d : Ledger J) → d.asked ≡ None → MayCome site.runs now x d s.run) → ((d : Ledger J) → entered_as x d ≡ d) → Agree (LessOften (held s) (left s)) m n
       → perform (end_timer site now timer.Body (tell site now x m)) b s ≡ perform (end_timer site now timer.Body (tell site now x n)) b s
@@ -154,7 +154,7 @@ module _ {J R : Type 0} (site : Service J R) (now : ℕ) (holds : Ledger J → R
       by body.More = waiting_so may
       by body.Memory = waiting_so may
 
-  -- it is told that the body isn't there yet, and more of it is waited for
+  -- more of the body is waited for, and the run is told so
   not-yet-agrees : (max : ℕ) (m n : Move J (Both R)) (b : Ledger J) (s : Both R) → s.client.stage ≡ stage.Busy → holds b s.run → b.asked ≡ None
       → (site.runs.waits s.run).asks ≡ Some (asking.Body max) → Agree (LessOften (held s) (left s)) m n
       → perform (wait_more site now s.client (tell site now seen.NotYet m)) b s ≡ perform (wait_more site now s.client (tell site now seen.NotYet n)) b s

@@ -15,30 +15,28 @@ use Rattle.client_line.specs.Lines.{came_at, body_so_far, taken_count, after_ask
 use Rattle.client_line.specs.Feeding.{Fed, fed}
 use Rattle.strand_contract.specs.declared.turns.Place.TheVariants as place
 use Rattle.strand_plans.specs.Questions.{Question}
-use Rattle.strand_plans.specs.Ledgers.{Ledger, has}
+use Rattle.strand_plans.specs.Ledgers.{Ledger}
 use Rattle.strand_plans.specs.Moves.{Move, Done, Ask, State, asked_of, hung_up, perform}
 use Rattle.run_contract.specs.declared.turns.RunSeen.{RunSeen}
 use Rattle.run_contract.specs.declared.turns.RunSeen.TheVariants as seen
-use Rattle.run_contract.specs.declared.turns.Said.{Said}
 use Rattle.run_contract.specs.declared.turns.Said.TheVariants as said
 use Rattle.run_contract.specs.declared.turns.Asking.{Asking}
 use Rattle.run_contract.specs.declared.turns.Asking.TheVariants as asking
 use Rattle.run_contract.specs.Deeds.{Deed, Ready, Unready, Arm, Cancel, HangUp, Send, Log, Say, Asks, Nothing, Outside, Within, Turn, ledger_by, ledger_after, ledger_asking, within, taken, says_over}
-use Rattle.run_contract.specs.Runs.{RunPlan, Waits, waits_at_first, waits_told, waits_after, is_of_client}
+use Rattle.run_contract.specs.Runs.{RunPlan, Waits, waits_at_first, waits_told, is_of_client}
 use Rattle.run_contract.specs.Alike.{AreAlike}
 use Rattle.run_contract.specs.Conditions.{IsBlank, IsRun, MayCome, MayHear, Leaves, asks_body, asks_taken, entered_as}
 use Rattle.connection_plan.specs.Clients.{Stage, Client, with_request, with_refusal, closes_after}
 use Rattle.connection_plan.specs.Clients as stage
 use Rattle.connection_plan.specs.Services.{Service, Both}
 use Rattle.connection_plan.specs.Timers as timer
-use Rattle.connection_plan.specs.Turns.{is_there, is_all_taken, wait_more, end_timer, finish, ask, asks_then, run_turn, tell, lose_at, lose, begin, close_if_taken, refuse, wait_for, heard_by, heard, next, body_told, tell_body, ask_body, answer_body, taken_answer, answer_asked, waiting, busy_at, is_to_close, busy, flush, settled_at, tells, settle_for, settle}
-use Rattle.connection_plan.specs.Conditions.{Agrees, Knows}
+use Rattle.connection_plan.specs.Turns.{is_there, is_all_taken, wait_more, end_timer, finish, asks_then, run_turn, tell, lose_at, lose, begin, close_if_taken, refuse, wait_for, heard_by, heard, next, body_told, tell_body, ask_body, answer_body, waiting, busy_at, is_to_close, busy, flush, settled_at, tells, settle_for, settle}
+use Rattle.connection_plan.specs.Conditions.{AgreesWithin, Agrees, Knows}
 use Rattle.connection_plan.proofs.Alike as alike
 use Rattle.connection_plan.proofs.Alike.{alike-trans, blank-alike, hung-up-alike, asking-alike, unasked-alike}
 use Rattle.connection_plan.proofs.Fewer.{next-fewer}
 use Rattle.connection_plan.proofs.Lifted.{SameRun}
-use Rattle.connection_plan.proofs.Steps.{stage_word, stage_did, Follows, begins-leads, ends-leads, speaks-leads, waits-leads, turn-leads}
-
+use Rattle.connection_plan.proofs.Steps.{stage_did, Follows, begins-leads, ends-leads, speaks-leads, waits-leads, turn-leads}
 
 asked-fewer : (at : At) (bytes : List ℕ) (max : ℕ) → length (after_asked (came_at at bytes) max).held ≤ length bytes
 asked-fewer line.Head bytes max = omega arith
@@ -46,7 +44,7 @@ asked-fewer (line.Present body kind skips) bytes max = omega (arith, length-drop
 asked-fewer (line.Dropping far) bytes max = omega arith
 asked-fewer (line.Over code) bytes max = omega arith
 
--- ---- stages, and what deeds leave
+-- ---- the stage after deeds
 
 flush-stays : (ds : List Deed) → stage_did ds stage.Flush ≡ stage.Flush
 flush-stays [] = refl
@@ -78,7 +76,7 @@ stage-over (HangUp k ∷ ds) st = stage-over ds st
 stage-over (Send k bytes ∷ ds) st = stage-over ds st
 stage-over (Log line ∷ ds) st = stage-over ds st
 
--- deeds ask nothing
+-- no deed asks the outside
 pub deeds-ask-nothing : {J : Type 0} (ds : List Deed) (b : Ledger J) → (ledger_after ds b).asked ≡ b.asked
 deeds-ask-nothing [] b = refl
 deeds-ask-nothing (Ready k ∷ ds) b = deeds-ask-nothing ds (ledger_by (Ready k) b)
@@ -94,7 +92,7 @@ module _ {J R : Type 0} (runs : RunPlan J R) (holds : Ledger J → R → Type 0)
   abbrev pub Known : Ledger J → Both R → Type 0
   Known b s = AgreesWithin holds s.client.stage b s.run × (b.asked ≡ None)
 
-  -- where the run goes on, it has its answer
+  -- a run that goes on has no question open
   abbrev pub Answered : Stage → R → Type 0
   Answered stage.Busy r = (runs.waits r).asks ≡ None
   Answered st r = Unit {0}
@@ -135,7 +133,7 @@ module _ {J R : Type 0} (site : Service J R) (now : ℕ) (holds : Ledger J → R
   abbrev Knowing : State J (Both R) → Type 0
   Knowing st = Knows site.runs holds st
 
-  -- moves that lead to what is known, from a state
+  -- from this state these moves lead to one that is known
   abbrev pub LeadsOn : Move J (Both R) → Ledger J → Both R → Type 0
   LeadsOn m b s = Knowing (perform m b s).state
 
@@ -154,7 +152,7 @@ module _ {J R : Type 0} (site : Service J R) (now : ℕ) (holds : Ledger J → R
 
   -- ---- a turn of the run
 
-  -- what it leaves at the stage to which its words lead
+  -- at the stage after the deeds: what the turn leaves, or that it is blank
   within-over : (ds : List Deed) (b : Ledger J) (r : R) → holds b r → (says_over ds ≡ true → IsBlank b) → AgreesWithin holds (stage_did ds stage.Busy) b r
   within-over ds b r h over = subst (λ (st : Stage). AgreesWithin holds st b r) (sym (stage-over ds stage.Busy)) (by (says_over ds) over)
     where
@@ -162,14 +160,14 @@ module _ {J R : Type 0} (site : Service J R) (now : ℕ) (holds : Ledger J → R
       by true f = f refl
       by false f = h
 
-  -- from where a turn goes on
+  -- a turn with what comes after it
   pub record IsAfter (t : Turn J R) (s : Both R) (c : Ledger J) (u : Both R) : Type 0 where
     pub known : Known site.runs holds c u
     pub ran : u.run ≡ t.run
     pub came : u.client.came ≡ s.client.came
     pub asks : (site.runs.waits u.run).asks ≡ within t.asks
 
-  -- the ledger, the run and the stage to which the deeds of a turn lead
+  -- where its deeds lead: a ledger alike to the run's own, the turn's run, the stage after the words
   pub record IsDone (t : Turn J R) (b : Ledger J) (s : Both R) (d : Ledger J) (u : Both R) : Type 0 where
     pub same : SameRun (ledger_after t.does b) d
     pub ran : u.run ≡ t.run
@@ -183,28 +181,28 @@ module _ {J R : Type 0} (site : Service J R) (now : ℕ) (holds : Ledger J → R
     asked : (u : Both R) → u.run ≡ t.run → (site.runs.waits u.run).asks ≡ within t.asks
     asked u r = ap (λ (r : R). (site.runs.waits r).asks) r ∙ ap (λ (w : Waits). w.asks) left.waits
 
-    mid : (d : Ledger J) (u : Both R) (a : Asks J) → t.asks ≡ a → AreAlike (ledger_asking a (ledger_after t.does b)) d → u.run ≡ t.run → u.client.stage ≡ stage_did t.does stage.Busy
+    agrees : (d : Ledger J) (u : Both R) (a : Asks J) → t.asks ≡ a → AreAlike (ledger_asking a (ledger_after t.does b)) d → u.run ≡ t.run → u.client.stage ≡ stage_did t.does stage.Busy
         → AgreesWithin holds u.client.stage d u.run
-    mid d u a e x r st =
+    agrees d u a e x r st =
         let b2 = (taken t b).ledger in
         let h = within-over t.does b2 t.run left.known (λ o. (left.over o).0) in
         let g = within-alike (stage_did t.does stage.Busy) b2 d t.run (subst (λ (a : Asks J). AreAlike (ledger_asking a (ledger_after t.does b)) d) (sym e) x) h in
         subst (λ (st : Stage). AgreesWithin holds st d u.run) (sym st) (subst (λ (r : R). AgreesWithin holds (stage_did t.does stage.Busy) d r) (sym r) g)
 
-    -- where nothing is asked of the outside it goes on from what is known
+    -- with no question to the outside the state there is known
     pub goes-on : (d : Ledger J) (u : Both R) → IsDone t b s d u → (a : Asks J) → t.asks ≡ a → ((x : Question J) → a ≡ Outside x → asked_of x d ≡ None) → IsAfter t s d u
     goes-on d u y (Outside x) e o =
         let c = ledger_after t.does b in
         let n : d.asked ≡ None = sym y.same.alike.asked ∙ unasked in
         let like = alike-trans (alike.asking x c) (alike.asking x d) d (asking-alike x c d y.same.alike) (unasked-alike x d (o x refl) n) in
-        record { known = (mid d u (Outside x) e like y.ran y.stage, n); ran = y.ran; came = y.came; asks = asked u y.ran }
-    goes-on d u y Nothing e o = record { known = (mid d u Nothing e y.same.alike y.ran y.stage, sym y.same.alike.asked ∙ unasked); ran = y.ran; came = y.came; asks = asked u y.ran }
-    goes-on d u y (Within q) e o = record { known = (mid d u (Within q) e y.same.alike y.ran y.stage, sym y.same.alike.asked ∙ unasked); ran = y.ran; came = y.came; asks = asked u y.ran }
+        record { known = (agrees d u (Outside x) e like y.ran y.stage, n); ran = y.ran; came = y.came; asks = asked u y.ran }
+    goes-on d u y Nothing e o = record { known = (agrees d u Nothing e y.same.alike y.ran y.stage, sym y.same.alike.asked ∙ unasked); ran = y.ran; came = y.came; asks = asked u y.ran }
+    goes-on d u y (Within q) e o = record { known = (agrees d u (Within q) e y.same.alike y.ran y.stage, sym y.same.alike.asked ∙ unasked); ran = y.ran; came = y.came; asks = asked u y.ran }
 
-    -- where something is, it is known too
+    -- with one the turn ends, and its end is known too
     pub asks-on : (d : Ledger J) (u : Both R) → IsDone t b s d u → (x : Question J) → t.asks ≡ Outside x → Knowing (record { ledger = alike.asking x d; inner = u })
     asks-on d u y x e =
-        let h = mid (alike.asking x d) u (Outside x) e (asking-alike x (ledger_after t.does b) d y.same.alike) y.ran y.stage in
+        let h = agrees (alike.asking x d) u (Outside x) e (asking-alike x (ledger_after t.does b) d y.same.alike) y.ran y.stage in
         settled-so site.runs holds u.client.stage (alike.asking x d) u.run h (answered-so site.runs holds u.client.stage u.run (asked u y.ran ∙ ap within e))
 
   no-other : (x y : Question J) → Outside x ≡ Outside y → x ≡ y
@@ -232,11 +230,11 @@ module _ {J R : Type 0} (site : Service J R) (now : ℕ) (holds : Ledger J → R
   told-keeps x m b s at h may none keeps =
       turn-keeps (site.runs.turn now x (entered_as x b) s.run) m (waits_told x (site.runs.waits s.run)) (entered_as x b) s at (run.stays now x b s.run h may) none keeps
 
-  -- after a turn that asks nothing of its connection nothing needs to follow
+  -- a turn with no question to the connection may be the last of an action
   pub done-keeps : (t : Turn J R) (s : Both R) → within t.asks ≡ None → (c : Ledger J) (u : Both R) → IsAfter t s c u → LeadsOn Done c u
   done-keeps t s e c u x = settled-so site.runs holds u.client.stage c u.run x.known.0 (answered-so site.runs holds u.client.stage u.run (x.asks ∙ e))
 
-  -- told of its client it can be told less often, and the bytes that are held are the same
+  -- each time it is told of its client, `tells_left` falls, and the bytes held stay
   pub tell-keeps : (x : RunSeen) (m : Move J (Both R)) (b : Ledger J) (s : Both R) → s.client.stage ≡ stage.Busy → holds b s.run
       → MayCome site.runs now x b s.run → (entered_as x b).asked ≡ None → is_of_client x ≡ true
       → ((c : Ledger J) (u : Both R) → Known site.runs holds c u → u.client.came ≡ s.client.came → site.runs.tells_left u.run < site.runs.tells_left s.run → LeadsOn m c u)
@@ -249,7 +247,7 @@ module _ {J R : Type 0} (site : Service J R) (now : ℕ) (holds : Ledger J → R
   pub finishes : (b : Ledger J) (s : Both R) → b.asked ≡ None → LeadsOn finish b s
   finishes b s none = (none, λ k. refl)
 
-  -- while the run has its answer
+  -- with no question open
   pub lose-keeps : (b : Ledger J) (s : Both R) → Known site.runs holds b s → Answered site.runs holds s.client.stage s.run → LeadsOn (lose site now) b s
   lose-keeps b s h answered = at s.client.stage refl
     where
@@ -303,7 +301,7 @@ module _ {J R : Type 0} (site : Service J R) (now : ℕ) (holds : Ledger J → R
   refuse-keeps (line.Present body kind skips) code b s h = finishes b s h.none_asked
   refuse-keeps (line.Dropping far) code b s h = finishes b s h.none_asked
 
-  -- a stage at which nothing of a run is left
+  -- the stages at which nothing of a run is left
   at-stage : (st : Stage) (b c : Ledger J) (t : Both R) → ((c : Ledger J) → IsBlank c → Agrees site.runs holds st c t.run) → AreAlike b c → t.client.stage ≡ st → IsBlank b
       → Agrees site.runs holds t.client.stage c t.run
   at-stage st b c t f x e h = subst (λ (st : Stage). Agrees site.runs holds st c t.run) (sym e) (f c (blank-alike b c x h))
@@ -314,7 +312,7 @@ module _ {J R : Type 0} (site : Service J R) (now : ℕ) (holds : Ledger J → R
   wait-keeps held.Begun b s h = begins-leads site now Knowing timer.Header Done b (record s { client = record s.client { stage = stage.Head } }) (λ c t x. at-stage stage.Head b c t (λ c h. h) x.same.alike x.stage h)
   wait-keeps held.Request b s h = begins-leads site now Knowing timer.Header Done b (record s { client = record s.client { stage = stage.Head } }) (λ c t x. at-stage stage.Head b c t (λ c h. h) x.same.alike x.stage h)
 
-  -- what came is heard while no run goes on; a request that begins has these bytes left
+  -- bytes that came are read while no run goes on; where a request begins, so many are left
   pub heard-keeps : (anew : Bool) (rest : Move J (Both R)) (ended : Bool) (f : Fed) (b : Ledger J) (s : Both R) → Agrees site.runs holds s.client.stage b s.run → IsBlank b
       → ((head : Head) (target : Target) → f.answer ≡ out.Request head target → (c : Ledger J) (u : Both R) → Known site.runs holds c u → u.client.came ≡ f.after → LeadsOn rest c u)
       → LeadsOn (heard site now anew rest ended f) b s
@@ -335,7 +333,7 @@ module _ {J R : Type 0} (site : Service J R) (now : ℕ) (holds : Ledger J → R
       by out.Waiting e = more ended anew
       by out.Memory e = more ended anew
 
-  -- ---- what a run asks, or waits for
+  -- ---- telling a run what it asked or waits for
 
   abbrev left : Both R → ℕ
   left s = site.runs.tells_left s.run
@@ -343,7 +341,7 @@ module _ {J R : Type 0} (site : Service J R) (now : ℕ) (holds : Ledger J → R
   abbrev held_bytes : Both R → ℕ
   held_bytes s = length s.client.came.held
 
-  -- from states in which no more bytes are held, and the run can be told less often
+  -- what settling again needs to be right from: states with no more bytes held and fewer tells left
   abbrev LessOften : Move J (Both R) → Both R → Type 0
   LessOften m s = (c : Ledger J) (u : Both R) → Known site.runs holds c u → held_bytes u ≤ held_bytes s → left u < left s → LeadsOn m c u
 
@@ -355,7 +353,7 @@ module _ {J R : Type 0} (site : Service J R) (now : ℕ) (holds : Ledger J → R
       (λ c u k came less. keeps c u k (subst (λ (z : Came). length z.held ≤ held_bytes s) (sym came) fewer)
       (subst (λ (r : R). left u < site.runs.tells_left r) same less)))
 
-  -- it is told of its body, after the timer of that ended
+  -- the body's timer ends, and the run is told
   body-less : (x : RunSeen) (again : Move J (Both R)) (b : Ledger J) (s t : Both R) → t.client.stage ≡ stage.Busy → holds b t.run → t.run ≡ s.run → held_bytes t ≤ held_bytes s
       → ((d : Ledger J) (r : R) → d.asked ≡ None → r ≡ s.run → MayCome site.runs now x d r) → ((d : Ledger J) → entered_as x d ≡ d) → b.asked ≡ None → is_of_client x ≡ true → LessOften again s
       → LeadsOn (end_timer site now timer.Body (tell site now x again)) b t
@@ -364,7 +362,7 @@ module _ {J R : Type 0} (site : Service J R) (now : ℕ) (holds : Ledger J → R
       let k : holds d u.run = subst (λ (r : R). holds d r) (sym y.run) (run.apart b d t.run y.same.alike h) in
       tell-less x again d s u (y.stage ∙ at) k (y.run ∙ same) (subst (λ (z : Came). length z.held ≤ held_bytes s) (sym y.came) fewer) (may d u.run n (y.run ∙ same)) (enters d) n of keeps)
 
-  -- the answer, or what it waits for, may be heard
+  -- it may be told the answer, or what it waits for
   pub body-answers : (q : Option Asking) (w : Bool) (max : ℕ) → q ≡ Some (asking.Body max) → MayHear (asks_body q) w q
   body-answers q w max e = subst (λ (q : Option Asking). MayHear (asks_body q) w q) (sym e) tt
 
@@ -380,7 +378,7 @@ module _ {J R : Type 0} (site : Service J R) (now : ℕ) (holds : Ledger J → R
   pub asks-some : (q : Option Asking) (x : Asking) → q ≡ Some x → is_some q ≡ true
   asks-some q x e = ap is_some e
 
-  -- it asked for the body
+  -- after the question for the body
   answer-keeps : (may : Bool) (c : Client) (a : BodyRead) (max : ℕ) (again : Move J (Both R)) (b : Ledger J) (s t : Both R) → t.client.stage ≡ stage.Busy → holds b t.run → t.run ≡ s.run
       → held_bytes t ≤ held_bytes s → b.asked ≡ None → (site.runs.waits s.run).asks ≡ Some (asking.Body max) → LessOften again s
       → LeadsOn (answer_body site now again (body_told may c a)) b t
@@ -410,7 +408,7 @@ module _ {J R : Type 0} (site : Service J R) (now : ℕ) (holds : Ledger J → R
       by body.More = waiting_so may
       by body.Memory = waiting_so may
 
-  -- it waits for the body
+  -- while the body is waited for
   body-keeps : (may : Bool) (c : Client) (a : BodyRead) (again : Move J (Both R)) (b : Ledger J) (s t : Both R) → t.client.stage ≡ stage.Busy → holds b t.run → t.run ≡ s.run
       → held_bytes t ≤ held_bytes s → b.asked ≡ None → (site.runs.waits s.run).asks ≡ None → (site.runs.waits s.run).body ≡ true → LessOften again s
       → LeadsOn (tell_body site now again (body_told may c a)) b t
@@ -481,7 +479,7 @@ module _ {J R : Type 0} (site : Service J R) (now : ℕ) (holds : Ledger J → R
           answer-keeps (is_there b && not s.client.ended) (record s.client { limit = max }) (body_answer s.client.came max) max again b s t at k refl
           (asked-fewer s.client.came.at s.client.came.held max) h.1 e keeps
 
-  -- from states in which fewer bytes are held than so many
+  -- from states with fewer bytes held than so many
   abbrev Fewer : ℕ → Move J (Both R) → Type 0
   Fewer n m = (c : Ledger J) (u : Both R) → Known site.runs holds c u → held_bytes u < n → LeadsOn m c u
 

@@ -5,7 +5,7 @@ use Rattle.strand_contract.specs.declared.turns.Place.{Place}
 use Rattle.strand_plans.proofs.Places.{has-append}
 use Rattle.strand_contract.specs.declared.turns.Place.TheVariants as place
 use Rattle.strand_plans.specs.Ledgers.{Ledger, has, has_number, numbers, wants_offer}
-use Rattle.strand_plans.specs.Moves.{Move, Done, Cancel, State, added_if, with_sent, with_offer, with_deadline, without_deadline, perform}
+use Rattle.strand_plans.specs.Moves.{Move, Cancel, State, added_if, with_sent, with_offer, with_deadline, without_deadline, perform}
 use Rattle.strand_plans.specs.Moves as move
 use Rattle.client_line.specs.Records.{Came}
 use Rattle.run_contract.specs.declared.turns.Said.{Said}
@@ -28,7 +28,7 @@ own-number timer.Keepalive = refl
 own-number timer.Body = refl
 own-number timer.Send = refl
 
--- the stage after a run said a word, and after its deeds
+-- the stage after a word, and after deeds
 abbrev pub stage_word : Said → Stage → Stage
 stage_word said.Over st = stage.Flush
 stage_word w st = st
@@ -38,7 +38,7 @@ stage_did [] st = st
 stage_did (Say w ∷ ds) st = stage_did ds (stage_word w st)
 stage_did (d ∷ ds) st = stage_did ds st
 
--- what a run says leaves the offers of sockets too
+-- a word changes no socket's offer
 pub armed-same : {J : Type 0} (n : ℕ) (at : Ms) (b : Ledger J) → nat_lt n 2 ≡ true → SameRun b (with_deadline n at b)
 armed-same n at b h = record { alike = armed-alike n at b h; places = λ k. refl; begun = λ k. refl }
 
@@ -125,7 +125,7 @@ module _ {J R : Type 0} (site : Service J R) (now : ℕ) (P : State J (Both R) �
       by true = waits-leads m b s s.client f
       by false = f b s (same b s)
 
-  -- a word
+  -- one word
   pub says-leads : (w : Said) (m : Move J (Both R)) (b : Ledger J) (s : Both R) → Leads P m b s (stage_word w s.client.stage) → P (perform (says site now w m) b s).state
   says-leads (said.Send bytes) m b s f =
       speaks-leads bytes m b (record s { client = record s.client { reply = begun s.client.reply } }) (λ c t x. f c t (record { same = x.same; run = x.run; stage = x.stage; came = x.came }))
@@ -136,7 +136,7 @@ module _ {J R : Type 0} (site : Service J R) (now : ℕ) (P : State J (Both R) �
       ends-leads timer.Body (change (λ c. record c { stage = stage.Flush }) m) b s
       (λ c t x. f c (record t { client = record t.client { stage = stage.Flush } }) (record { same = x.same; run = x.run; stage = refl; came = x.came }))
 
-  -- the deeds of a run, from a ledger that is the same to it, lead to one that is the same as they leave, with the same run
+  -- deeds done in a ledger that is the same to the run lead to one that is the same as that after them; the run beside it stays
   pub deeds-lead : (ds : List Deed) (m : Move J (Both R)) (b c : Ledger J) (s : Both R) (r : R) (st : Stage) (z : Came) → SameRun b c → s.run ≡ r → s.client.stage ≡ st → s.client.came ≡ z
       → ((d : Ledger J) (t : Both R) → SameRun (ledger_after ds b) d → t.run ≡ r → t.client.stage ≡ stage_did ds st → t.client.came ≡ z → P (perform m d t).state)
       → P (perform (lifted (says site now) ds m) c s).state
@@ -152,7 +152,7 @@ module _ {J R : Type 0} (site : Service J R) (now : ℕ) (P : State J (Both R) �
   deeds-lead (Send k bytes ∷ ds) m b c s r st z x e h i f = deeds-lead ds m (ledger_by (Send k bytes) b) (ledger_by (Send k bytes) c) s r st z (deed-same (Send k bytes) b c x) e h i f
   deeds-lead (Log line ∷ ds) m b c s r st z x e h i f = deeds-lead ds m b c s r st z x e h i f
 
-  -- a turn of the run: then the question, or what follows
+  -- a whole turn: its deeds, then its question or what comes after
   pub turn-leads : (t : Turn J R) (m : Move J (Both R)) (b : Ledger J) (s : Both R)
       → ((d : Ledger J) (u : Both R) → SameRun (ledger_after t.does b) d → u.run ≡ t.run → u.client.stage ≡ stage_did t.does s.client.stage → u.client.came ≡ s.client.came → P (perform (asks_then site now t.asks m) d u).state)
       → P (perform (run_turn site now t m) b s).state

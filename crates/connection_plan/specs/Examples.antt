@@ -28,7 +28,7 @@ use Rattle.connection_plan.specs.Connections.{connection_plan}
 -- how far a run has come that replies with the path of its request, or with its body, of at most five bytes
 pub data Echo : Type 0 where
   Fresh : Echo
-  -- it asked for the body; and waits for it
+  -- it asked for the body and has no answer; it was told that the body isn't there yet
   Asked : (keep : Bool) → Echo
   Reading : (keep : Bool) → Echo
   Replied : Echo
@@ -54,7 +54,7 @@ silent r = record { does = []; asks = Nothing; run = r }
 abbrev pub replies : {J : Type 0} → List ℕ → Bool → Turn J Echo
 replies bytes keep = record { does = Say (said.Send bytes) ∷ Say (said.Ended (not keep)) ∷ Say said.Over ∷ []; asks = Nothing; run = Replied }
 
--- its client is gone: a thread ends it
+-- its client is gone, and a thread of it runs to end it
 abbrev pub leaves : {J : Type 0} → Turn J Echo
 leaves = record { does = Ready 0 ∷ []; asks = Nothing; run = Left }
 

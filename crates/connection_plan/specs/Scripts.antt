@@ -1,5 +1,5 @@
 -- Runs by a script, for example laws: such a run asks at most one thing, and its script has what it does as it begins and with each answer.
-use Rattle.std.specs.Prelude.{ℕ, Bool, true, false, List, [], ◌∷◌, codes}
+use Rattle.std.specs.Prelude.{ℕ, true, false, List, [], ◌∷◌, codes}
 use Rattle.strand_contract.specs.declared.turns.Place.TheVariants as place
 use Rattle.strand_contract.specs.declared.turns.Act.{Act}
 use Rattle.strand_contract.specs.Actions.{LocalAction, Did, Dial}
@@ -12,7 +12,7 @@ use Rattle.run_contract.specs.declared.turns.Said.TheVariants as said
 use Rattle.run_contract.specs.declared.turns.Asking.{Asking}
 use Rattle.run_contract.specs.declared.turns.Asking.TheVariants as asking
 use Rattle.run_contract.specs.declared.turns.LocationTimes.{LocationTimes}
-use Rattle.run_contract.specs.Deeds.{Deed, Arm, Cancel, Send, Log, Say, Turn, Asks, Nothing, Outside, Within, within}
+use Rattle.run_contract.specs.Deeds.{Deed, Arm, Cancel, Log, Say, Turn, Asks, Nothing, Outside, Within, within}
 use Rattle.run_contract.specs.Runs.{Waits, RunPlan, waits_at_first, waits_longer}
 use Rattle.connection_plan.specs.Services.{Service}
 use Rattle.connection_plan.specs.Connections.{connection_plan}

@@ -23,10 +23,9 @@ use Rattle.run_contract.specs.declared.turns.RunSeen.{RunSeen}
 use Rattle.run_contract.specs.declared.turns.RunSeen.TheVariants as seen
 use Rattle.run_contract.specs.declared.turns.Said.{Said}
 use Rattle.run_contract.specs.declared.turns.Said.TheVariants as said
-use Rattle.run_contract.specs.declared.turns.LocationTimes.{LocationTimes}
 use Rattle.run_contract.specs.declared.turns.Asking.{Asking}
 use Rattle.run_contract.specs.declared.turns.Asking.TheVariants as asking
-use Rattle.run_contract.specs.Deeds.{Turn, Asks, Nothing, Outside, Within}
+use Rattle.run_contract.specs.Deeds.{Turn, Asks, Outside}
 use Rattle.run_contract.specs.Runs.{Waits}
 use Rattle.connection_plan.specs.Clients.{Stage, Reply, Client, Unsent, Whole, with_more, with_request, with_refusal, with_times, begun, closes_after, is_last}
 use Rattle.connection_plan.specs.Clients as stage
@@ -99,7 +98,7 @@ module _ {J R : Type 0} (site : Service J R) (now : ℕ) where
   abbrev pub end_timer : Timer → Moves → Moves
   end_timer t m = Look (λ b s. if has_number (number_of t) (numbers b.armed) then Cancel (number_of t) m else m)
 
-  -- ---- what a run says and asks
+  -- ---- a turn of the run
 
   -- while nothing of the reply was sent, the first wait for more of a body lets the client send it
   abbrev pub let_send : Client → Reply → Moves → Moves
@@ -108,7 +107,7 @@ module _ {J R : Type 0} (site : Service J R) (now : ℕ) where
       else change (λ c. record c { waited = true }) (if c.expects then send continue_reply m else m)
   let_send c reply m = m
 
-  -- more of the body is to come, and the client may send it
+  -- the body isn't whole, and its client can send more
   abbrev pub may_come : Ledger J → Client → Bool
   may_come b c = is_there b && not c.ended && is_more (body_answer c.came c.limit)
 

@@ -140,9 +140,9 @@ pub record IsRun {J R : Type 0} (p : RunPlan J R) (holds : Ledger J → R → Ty
       → p.tells_left (p.turn now s (entered_as s b) r).run < p.tells_left r
   -- it knows nothing of what is the client's, and nothing of what is offered
   pub apart : (b c : Ledger J) (r : R) → AreAlike b c → holds b r → holds c r
-  -- what it asks the outside fits
+  -- its questions to the outside fit
   pub asks : (b : Ledger J) (r : R) (x : Question J) → holds b r → b.asked ≡ Some x → Fits p x
-  -- a job that begins, a deadline that is taken, and the client's hang-up, only wake
+  -- as a job begins, a deadline comes due or the client is hung up, it only wakes
   pub job : (now : ℕ) (premature : Bool) (job : J) (b : Ledger J) → IsQuiet (p.begun_job now premature job b)
   pub due : (now n : ℕ) (b : Ledger J) (r : R) → IsQuiet (p.turn now (seen.Due n) b r)
   pub gone : (now : ℕ) (b : Ledger J) (r : R) → IsQuiet (p.turn now seen.ClientGone b r)

@@ -91,7 +91,7 @@ abbrev pub made_asking : {J : Type 0} → Asks J → Ledger J → List (RunAct J
 made_asking (Outside x) b = acts_made (asking_if (asked_of x b))
 made_asking a b = []
 
--- the question to the connection
+-- the question that is the connection's, where there is one
 abbrev pub within : {J : Type 0} → Asks J → Option Asking
 within (Within q) = Some q
 within a = None

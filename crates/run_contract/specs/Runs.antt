@@ -1,4 +1,4 @@
--- A run as a plan: what each thing that it is told makes it do, say and ask.
+-- A run as a plan: the turn that it takes with each thing that it is told, and what it waits for.
 use Rattle.std.specs.Prelude.{ℕ, nat_lt, Bool, true, false, List, [], ◌∷◌, Option, Some, None, if◌then◌else◌}
 use Rattle.uri_args.specs.declared.targets.Target.{Target}
 use Rattle.http_in.specs.declared.heads.Head.{Head}
@@ -6,7 +6,6 @@ use Rattle.strand_contract.specs.Actions.{Action}
 use Rattle.strand_plans.specs.Ledgers.{Ledger}
 use Rattle.run_contract.specs.declared.turns.RunSeen.{RunSeen}
 use Rattle.run_contract.specs.declared.turns.RunSeen.TheVariants as seen
-use Rattle.run_contract.specs.declared.turns.Said.{Said}
 use Rattle.run_contract.specs.declared.turns.Said.TheVariants as said
 use Rattle.run_contract.specs.declared.turns.Asking.{Asking}
 use Rattle.run_contract.specs.declared.turns.Asking.TheVariants as asking

@@ -37,7 +37,7 @@ given_text otherwise a = otherwise
 abbrev pub silent : {J : Type 0} → Stored → Turn J Stored
 silent r = record { does = []; asks = Nothing; run = r }
 
--- the thread is put in line
+-- its thread waits for its run
 abbrev pub queued : {J : Type 0} → Stored → Turn J Stored
 queued r = record { does = Ready 0 ∷ []; asks = Nothing; run = r }
 

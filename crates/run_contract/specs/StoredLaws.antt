@@ -12,7 +12,6 @@ use Rattle.strand_contract.specs.Actions.{Action, Did, Dict}
 use Rattle.strand_contract.specs.Calls.{answered}
 use Rattle.strand_contract.specs.Alone.{sooner, due}
 use Rattle.strand_plans.specs.Questions.{Question, asking_if}
-use Rattle.strand_plans.specs.Questions as question
 use Rattle.strand_plans.specs.Ledgers.{Ledger, has, entered}
 use Rattle.strand_plans.specs.Turns.{IsDue}
 use Rattle.run_contract.specs.declared.stored.Progress.{Progress}
@@ -21,11 +20,10 @@ use Rattle.run_contract.specs.declared.turns.RunSeen.{RunSeen}
 use Rattle.run_contract.specs.declared.turns.RunSeen.TheVariants as seen
 use Rattle.run_contract.specs.declared.turns.SockSeen.{SockSeen}
 use Rattle.run_contract.specs.declared.turns.SockSeen.TheVariants as at
-use Rattle.run_contract.specs.Deeds.{taken}
 use Rattle.run_contract.specs.Runs.{waits_told, is_of_client}
 use Rattle.run_contract.specs.Alike.{own_deadlines, AreAlike}
 use Rattle.run_contract.specs.Conditions.{IsBlank, MayComeAt, MayCome, Leaves, Fits, entered_as, IsRun}
-use Rattle.run_contract.specs.Stored.{Stored, stored_turn, stored_answered, stored_plan, StoredHolds, threads_at, asked_at}
+use Rattle.run_contract.specs.Stored.{Stored, stored_plan, StoredHolds, threads_at, asked_at}
 
 never-over : {C : Type 0} → false ≡ true → C
 never-over e = absurd (cc)
@@ -84,7 +82,7 @@ pub runs-once : {J : Type 0} (name key otherwise : List ℕ) (now k : ℕ) (b : 
     → MayCome (stored_plan name key otherwise) now (seen.Run k) b r → r.progress ≡ Queued
 runs-once name key otherwise now k b r h x = queued-runs k x.0.0 b.threads r.progress (sym x.0.1) h.threads
 
--- otherwise it is only told that its client ends or is gone
+-- else all that it is told is that its client ends or is gone
 abbrev pub IsElse : RunSeen → Type 0
 IsElse (seen.Run k) = ⊥
 IsElse seen.ClientEnded = ⊥

@@ -110,9 +110,9 @@ impl RunContract for StoredReply {
     ghost Inner = { Stored };
 
     ghost meaning = { λ site. record {
-        plan = stored_plan site.dictionary site.key site.otherwise;
-        holds = λ b r. StoredHolds site.key b r;
-        stands = λ run b r. (run.progress ≡ r.progress) × (run.has_client ≡ r.client);
+      plan = stored_plan site.dictionary site.key site.otherwise;
+      holds = λ b r. StoredHolds site.key b r;
+      stands = λ run b r. (run.progress ≡ r.progress) × (run.has_client ≡ r.client);
     } };
 
     ghost left = { λ run. left_at run.progress + (if run.has_client then 1 else 0) };

@@ -75,9 +75,9 @@ pub enum Said {
 /// What a run asks its connection, which answers before anything else happens.
 #[derive(Clone, Copy)]
 pub enum Asking {
-    /// For the body of its request, whose content may have so many bytes.
+    /// The body of its request, with at most so many bytes of content.
     Body(u64),
-    /// Whether all that was sent to the client is taken.
+    /// Whether the client took all that was sent to it.
     AllTaken,
 }
 
