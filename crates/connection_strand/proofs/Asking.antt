@@ -96,11 +96,9 @@ module _ {R J I : Type 0} (v : View R J I) where
       by false = may-be-put-off now c (ap is_some asks)
 
   pub may-be-taken-by : (now : ℕ) (c : Connection R) → c.waits.taken ≡ true → c.waits.asks ≡ None → MayTell v now seen.AllTaken c
-  may-be-taken-by now c taken asks b r asked same = (
-    refl,
-    asked,
-    subst (λ (w : Waits). MayHear (asks_taken w.asks) w.taken w.asks) same (subst (λ (q : Option Asking). MayHear (asks_taken q) c.waits.taken q) (sym asks) (taken, refl)),
-  )
+  may-be-taken-by now c taken asks b r asked same =
+      let hears = subst (λ (q : Option Asking). MayHear (asks_taken q) c.waits.taken q) (sym asks) (taken, refl) in
+      (refl, (asked, subst (λ (w : Waits). MayHear (asks_taken w.asks) w.taken w.asks) same hears))
 
   pub taken-own : (k : Kept) → is_own_turn (seen_of_taken k) ≡ true
   taken-own k = by (all_taken k)

@@ -25,15 +25,15 @@ module _ {R J I : Type 0} (v : View R J I) (now : ℕ) where
   within-on true did c u m w e = (w.0, (w.1.ledger, w.1.inner, w.1.within))
   within-on false did c u m w e = absurd (let f : false ≡ true = e in cc)
 
-  pub goes-on : (on : Bool) (c0 : Connection R) (u0 : Turn J) (c : Connection R) (u : Turn J) (d : Connection R) (v : Turn J) → IsSettling true c0 u0 c u
-      → Steps v on (settle (service v) now) c u d v → IsSettling on c0 u0 d v
-  goes-on on c0 u0 c u d v x steps =
+  pub goes-on : (on : Bool) (c0 : Connection R) (u0 : Turn J) (c : Connection R) (u : Turn J) (d : Connection R) (w : Turn J) → IsSettling true c0 u0 c u
+      → Steps v on (settle (service v) now) c u d w → IsSettling on c0 u0 d w
+  goes-on on c0 u0 c u d w x steps =
       let y = x.within refl in
       let did : Performed J (Both I) = before u.acts.items (perform (settle (service v) now) y.1.0 y.1.1) in
       let h : Toward v (plain y.0) did c u (settle (service v) now) = record { ledger = y.1.0; inner = y.1.1; within = y.1.2; leads = refl } in
       record {
-        moves = λ st did h. (let w = x.moves st did h in steps w.0 did w.1);
-        within = within-on on did d v (settle (service v) now) (steps y.0 did h);
+        moves = λ st did h. (let t = x.moves st did h in steps t.0 did t.1);
+        within = within-on on did d w (settle (service v) now) (steps y.0 did h);
       }
 
   pub settled : (c0 : Connection R) (u0 : Turn J) (c : Connection R) (u : Turn J) (st : Stage) (did : Performed J (Both I)) → IsSettling false c0 u0 c u

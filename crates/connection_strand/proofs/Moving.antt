@@ -74,7 +74,7 @@ made-after-same (d ∷ ds) b c x =
 made-asking-same : {J : Type 0} (a : Asks J) (b c : Ledger J) → SameRun b c → made_asking a b ≡ made_asking a c
 made-asking-same Nothing b c x = refl
 made-asking-same (deeds.Within q) b c x = refl
-made-asking-same (Outside q) b c x = ap (λ (o : Option (Question J)). acts_made (asking_if o)) (asked-same q b c x)
+made-asking-same {J} (Outside q) b c x = ap (λ (o : Option (Question J)). acts_made (asking_if o)) (asked-same q b c x)
 
 made-of-same : {J : Type 0} (e : Moment J) (b c : Ledger J) → SameRun b c → made_of e b ≡ made_of e c
 made-of-same e b c x =

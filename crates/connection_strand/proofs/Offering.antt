@@ -1,5 +1,5 @@
 -- What is sent to the client, and offers of it.
-use Rattle.std.proofs.Common.{◌≡◌, ℕ, ◌≤◌, ◌%◌, zero, suc, Bool, true, false, not, ◌&&◌, ◌||◌, List, [], ◌∷◌, ◌++◌, length, drop, if◌then◌else◌, refl, sym, ap, ◌∙◌, append-nil, arith, length-append}
+use Rattle.std.proofs.Common.{◌≡◌, ℕ, ◌≤◌, ◌%◌, zero, suc, Bool, true, false, not, ◌&&◌, ◌||◌, List, [], ◌∷◌, ◌++◌, length, drop, if◌then◌else◌, refl, sym, ap, ◌∙◌, append-nil, arith, length-append, subst}
 use Rattle.send_queue.specs.Records.{Sending}
 use Rattle.send_queue.specs.Queues as queues
 use Rattle.strand_contract.specs.declared.turns.Act.TheVariants as act
@@ -17,6 +17,8 @@ use Rattle.connection_plan.specs.Clients.{with_more}
 use Rattle.connection_plan.specs.Services.{Service, Both}
 use Rattle.connection_plan.specs.Turns.{is_there, change, send}
 use Rattle.connection_plan.proofs.Alike.{sent-alike}
+use Rattle.connection_plan.proofs.Lifted.{SameRun}
+use Rattle.connection_plan.proofs.Steps.{sent-to-client-same}
 use Rattle.connection_strand.specs.Views.{View, service}
 use Rattle.connection_strand.specs.declared.state.Connection.{Connection}
 use Rattle.connection_strand.specs.declared.state.Turn.{Turn}
@@ -71,8 +73,8 @@ module _ {R J I : Type 0} (v : View R J I)
       ∙ ap (λ (d : Ledger J). before u.acts.items (after_act_if (ledgers.wants_offer place.Client d) (act.Offer place.Client) (perform m (with_offer place.Client d) h.inner))) (sends-nothing place.Client h.ledger)
       ∙ ap (λ y. before u.acts.items (after_act_if y (act.Offer place.Client) (perform m (with_offer place.Client h.ledger) h.inner))) is
 
-  offer-alike : (b : Ledger J) → AreAlike b (with_offer place.Client b)
-  offer-alike b = record { threads = refl; armed = refl; put_off = λ k. refl; taken = λ k. refl; sent = λ k. refl; opened = λ k. refl; count = refl; asked = refl }
+  offer-same : (b : Ledger J) → SameRun b (with_offer place.Client b)
+  offer-same b = subst (λ (d : Ledger J). SameRun b (with_offer place.Client d)) (sends-nothing place.Client b) (sent-to-client-same [] b)
 
   -- the offer is asked for
   pub offers : (e : Moment J) (did : Performed J (Both I)) (c c' : Connection R) (u u' : Turn J) (m : Move J (Both I))
@@ -88,7 +90,7 @@ module _ {R J I : Type 0} (v : View R J I)
       record {
         ledger = b';
         inner = s;
-        within = stays-within v lawful apart e c c' u u' b b' s s h.within (offer-alike b) refl refl same.run same.waits (record {
+        within = stays-within v lawful apart e c c' u u' b b' s s h.within (offer-same b) refl refl same.run same.waits (record {
           client = client ∙ w.client;
           sockets = w.sockets ∙ ap (places (is_there b)) (sym same.sockets);
           count = same.count ∙ w.count;
@@ -143,9 +145,12 @@ module _ {R J I : Type 0} (v : View R J I)
       by true = omega (arith, h, length-append (b.sent place.Client) bytes)
       by false = h
 
-  sent-only : (b : Ledger J) (bytes : List ℕ) → AreAlike b (with_sent place.Client bytes b)
-  sent-only b bytes = let a = sent-alike bytes b in
-      record { threads = a.threads; armed = a.armed; put_off = a.put_off; taken = a.taken; sent = a.sent; opened = a.opened; count = a.count; asked = a.asked }
+  sent-only : (b : Ledger J) (bytes : List ℕ) → SameRun b (with_sent place.Client bytes b)
+  sent-only b bytes = let a = sent-alike bytes b in record {
+    alike = record { threads = a.threads; armed = a.armed; put_off = a.put_off; taken = a.taken; sent = a.sent; opened = a.opened; count = a.count; asked = a.asked };
+    places = λ k. refl;
+    begun = λ k. refl;
+  }
 
   -- bytes are queued, before an offer is asked for
   pub queues-more : (e : Moment J) (did : Performed J (Both I)) (c c' : Connection R) (u : Turn J) (bytes : List ℕ) (m : Move J (Both I))

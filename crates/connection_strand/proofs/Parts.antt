@@ -1,5 +1,5 @@
 -- A turn of the run is taken part by part: each act is the connection's, each word is heard where it stands.
-use Rattle.std.specs.Prelude.{option_to_list, is_some}
+use Rattle.std.specs.Prelude.{option_to_list, is_some, MatchOption, ◌+◌}
 use Rattle.std.proofs.Common.{◌≡◌, ◌⊎◌, inl, inr, ℕ, suc, ◌≤◌, ◌||◌, Bool, true, false, not, List, [], ◌∷◌, ◌++◌, length, Option, Some, None, if◌then◌else◌, refl, sym, ap, ◌∙◌, subst, append_assoc, append-nil, arith}
 use Rattle.strand_contract.specs.declared.turns.Act.{Act}
 use Rattle.strand_contract.specs.declared.turns.Act.TheVariants as act
@@ -386,8 +386,8 @@ module _ {R J I : Type 0} (v : View R J I) (now : ℕ) where
   same-act : (a b : Act J) → made.Act a ≡ made.Act b → a ≡ b
   same-act a b e = cc
 
-  same-word : (w x : Said) → made.Say {J = J} w ≡ made.Say x → w ≡ x
-  same-word w x e = cc
+  same-word : (w x : Said) (y : RunAct J) → y ≡ made.Say w → y ≡ made.Say x → w ≡ x
+  same-word w x y e f = let g = sym e ∙ f in cc
 
   -- it is this act
   pub takes-act : (b : Act J) (rest : List (RunAct J)) (did : Performed J (Both I)) (c c' : Connection R) (u u' : Turn J) (m : Move J (Both I)) → TookAct b c c' u u'
@@ -404,7 +404,7 @@ module _ {R J I : Type 0} (v : View R J I) (now : ℕ) where
   takes-word w rest did c c' u u' m hears h = elim (next-part (made.Say w) rest h.1 h.2 h.0 did c u m h.3) [
     | inl n ↦ absurd (let e : made.Say w ≡ made.Act n.0 = n.1 in cc)
     | inr n ↦
-        let e = same-word w n.0 n.1 in
+        let e = same-word w n.0 (made.Say w) refl n.1 in
         let t = subst (λ (x : Said). TowardBy v now n.2 (Say x ∷ n.3) n.4 (made.Say x ∷ rest) did c u m) (sym e) n.5 in
         (stage_after w n.2, n.3, n.4, hears n.2 n.3 n.4 rest did (lifted speaks n.3 (asks_then (service v) now n.4 m)) t)
   ]
@@ -482,6 +482,14 @@ module _ {R J I : Type 0} (v : View R J I) (now : ℕ) where
       → TakesPart v now on' x c u c' u' → Takes v now on parts did c u m → Takes v now on' rest did c' u' m
   takes-next true on' x parts rest did c c' u u' m is takes h = takes rest did m (subst (λ xs. Takes v now true xs did c u m) is h)
   takes-next false on' x parts rest did c c' u u' m is takes h = absurd (let e : x ∷ rest ≡ [] = sym is ∙ h.0 in cc)
+
+  pub none-of : (parts : List (RunAct J)) (o : Option (RunAct J)) (n k : ℕ) → o ≡ None → MatchOption o ((n ≡ 0) × (k ≡ 0)) (λ x. k + 1 ≡ n) → length parts ≡ n → parts ≡ []
+  none-of parts (Some x) n k is h size = absurd (let f : None ≡ Some x = sym is in cc)
+  none-of parts None n k is h size = by parts (size ∙ h.0)
+    where
+      by : (xs : List (RunAct J)) → length xs ≡ 0 → xs ≡ []
+      by [] f = refl
+      by (x ∷ xs) f = absurd (omega (arith, f))
 
   pub takes-none : (on : Bool) (parts : List (RunAct J)) (did : Performed J (Both I)) (c : Connection R) (u : Turn J) (m : Move J (Both I)) → parts ≡ [] → Takes v now on parts did c u m → Went v on did c u m
   takes-none on parts did c u m is h = took-all on did c u m (subst (λ xs. Takes v now on xs did c u m) is h)

@@ -12,7 +12,7 @@ use Rattle.run_contract.specs.Conditions.{IsRun}
 use Rattle.connection_plan.specs.Clients.{Stage, Client, closes_after, is_last}
 use Rattle.connection_plan.specs.Clients as stage
 use Rattle.connection_plan.specs.Services.{Service, Both}
-use Rattle.connection_plan.specs.Turns.{is_there, is_all_taken, is_to_close, finish, tell, lose, next, ask_body, waiting, busy_at, busy, flush, settled_at, settle}
+use Rattle.connection_plan.specs.Turns.{is_there, is_all_taken, is_to_close, finish, tell, lose, next, ask_body, answer_asked, waiting, busy_at, busy, flush, settled_at, settle}
 use Rattle.connection_plan.specs.Conditions.{AgreesWithin}
 use Rattle.connection_plan.proofs.Stays.{Known}
 use Rattle.connection_plan.proofs.Settling.{settling}
@@ -47,17 +47,25 @@ module _ {R J I : Type 0} (v : View R J I)
 
   -- ---- a run goes on
 
-  -- by what it asks
+  -- whether it asks something
   pub busy-as : (now : ℕ) (again : Move J (Both I)) (did : Performed J (Both I)) (c : Connection R) (u : Turn J) (q : Option Asking) → c.waits.asks ≡ q
       → To (plain stage.Busy) did c u (Look (λ b s. busy (service v) now again b s)) → To (plain stage.Busy) did c u (Look (λ b s. busy_at (service v) now q again b s))
   busy-as now again did c u q is h =
       let e = sym (ap (λ (w : Waits). w.asks) h.within.run.3) ∙ is in
       instead (plain stage.Busy) did c u _ _ h (ap (λ (o : Option Asking). perform (busy_at (service v) now o again h.ledger h.inner) h.ledger h.inner) e)
 
+  -- and what
+  abbrev Asks : ℕ → Move J (Both I) → Asking → Move J (Both I)
+  Asks now again q = Look (λ b s. answer_asked (service v) now again b s.client q)
+
+  pub asked-as : (now : ℕ) (again : Move J (Both I)) (did : Performed J (Both I)) (c : Connection R) (u : Turn J) (q x : Asking) → q ≡ x
+      → To (plain stage.Busy) did c u (Asks now again q) → To (plain stage.Busy) did c u (Asks now again x)
+  asked-as now again did c u q x is h = subst (λ (y : Asking). To (plain stage.Busy) did c u (Asks now again y)) is h
+
   -- whether all is taken
-  pub busy-taken-asked : (now : ℕ) (again : Move J (Both I)) (did : Performed J (Both I)) (c : Connection R) (u : Turn J) (x : RunSeen) → x ≡ seen_of_taken (kept c.client)
-      → To (plain stage.Busy) did c u (Look (λ b s. busy_at (service v) now (Some asking.AllTaken) again b s)) → To (plain stage.Busy) did c u (tell (service v) now x again)
-  busy-taken-asked now again did c u x is h =
+  pub asked-taken : (now : ℕ) (again : Move J (Both I)) (did : Performed J (Both I)) (c : Connection R) (u : Turn J) (x : RunSeen) → x ≡ seen_of_taken (kept c.client)
+      → To (plain stage.Busy) did c u (Asks now again asking.AllTaken) → To (plain stage.Busy) did c u (tell (service v) now x again)
+  asked-taken now again did c u x is h =
       instead (plain stage.Busy) did c u _ _ h (ap (λ (y : RunSeen). perform (tell (service v) now y again) h.ledger h.inner)
       (ap (λ (o : Bool). if o then seen.AllTaken else seen.NotYet) (taken-is (plain stage.Busy) did c u _ h) ∙ sym is))
 

@@ -252,12 +252,3 @@ module _ {R J I : Type 0} (v : View R J I)
         };
         leads = h.leads;
       }
-
-  -- ---- what a word does, where it is known which it is
-
-  abbrev pub Hearing : ℕ → Said → Stage → List Deed → Asks J → List (RunAct J) → Performed J (Both I) → Connection R → Turn J → Move J (Both I) → Type 0
-  Hearing now w st ds a rest did c u m = To (taking st (Say w ∷ ds) a (made.Say w ∷ rest)) did c u (says (service v) now w m)
-
-  pub hearing-as : (now : ℕ) (w x : Said) (st : Stage) (ds : List Deed) (a : Asks J) (rest : List (RunAct J)) (did : Performed J (Both I)) (c : Connection R) (u : Turn J) (m : Move J (Both I)) → w ≡ x
-      → Hearing now w st ds a rest did c u m → Hearing now x st ds a rest did c u m
-  hearing-as now w x st ds a rest did c u m is h = subst (λ (y : Said). Hearing now y st ds a rest did c u m) is h

@@ -1,5 +1,5 @@
 -- What the run is told, and answered.
-use Rattle.std.proofs.Common.{◌≡◌, ℕ, List, [], ◌∷◌, Option, Some, None, refl, sym, ap, ◌∙◌, subst}
+use Rattle.std.proofs.Common.{◌≡◌, ℕ, false, List, [], ◌∷◌, Option, Some, None, refl, sym, ap, ◌∙◌, subst}
 use Rattle.strand_contract.specs.declared.turns.Answer.{Answer}
 use Rattle.strand_contract.specs.Actions.{Did}
 use Rattle.strand_plans.specs.Ledgers.{Ledger, entered}

@@ -7,7 +7,7 @@ use std::alloc::AllocError;
 use strand_contract::{Act, Place};
 
 impl<R: ServiceContract> Connection<R> {
-    ghost use Rattle.std.specs.Prelude.{IfOk, [], ◌+◌, ◌*◌, length};
+    ghost use Rattle.std.specs.Prelude.{◌≡◌, IfOk, [], ◌+◌, ◌*◌, length};
     ghost use Rattle.strand_contract.specs.declared.turns.Place.TheVariants as place;
     ghost use Rattle.strand_plans.specs.Moves.{Send};
     ghost use Rattle.connection_plan.specs.Turns.{send};
@@ -23,6 +23,7 @@ impl<R: ServiceContract> Connection<R> {
     ) -> Result<(), AllocError>
         ensures moves { let view = view_of (R.meaning _site.now) (R.serving _site.now) in IfOk result (λ done. Goes view
             (Send place.Client []) self.old turn.old self.new turn.new) }
+        ensures waits { self.new.waits ≡ self.old.waits }
         ensures costs { IfOk result (λ done. Spends R.left R.bound 1 self.old turn.old self.new turn.new) }
     {
         if self.client.wants_offer() && !turn.is_offered {
@@ -41,6 +42,7 @@ impl<R: ServiceContract> Connection<R> {
     ) -> Result<(), AllocError>
         ensures moves { let view = view_of (R.meaning site.now) (R.serving site.now) in IfOk result (λ done. Goes view
             (send (service view) 0 bytes.now) self.old turn.old self.new turn.new) }
+        ensures waits { self.new.waits ≡ self.old.waits }
         ensures costs { IfOk result (λ done. Spends R.left R.bound (16 * length bytes.now + 1) self.old turn.old self.new turn.new) }
     {
         if !self.client.is_open {

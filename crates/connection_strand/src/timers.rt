@@ -25,6 +25,7 @@ impl<R: ServiceContract> Connection<R> {
     ) -> Result<(), AllocError>
         ensures moves { let view = view_of (R.meaning site.now) (R.serving site.now) in IfOk result (λ done. Goes view
             (begin_timer (service view) now.0 (timer_of timer)) self.old turn.old self.new turn.new) }
+        ensures waits { self.new.waits ≡ self.old.waits }
         ensures costs { IfOk result (λ done. Spends R.left R.bound 5 self.old turn.old self.new turn.new) }
     {
         let time = timer.time(R::default_times(site), self.client.times);

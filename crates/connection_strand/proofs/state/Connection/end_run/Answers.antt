@@ -1,4 +1,4 @@
-use Rattle.std.proofs.Common.{refl}
+use Rattle.std.proofs.Common.{◌∷◌, refl}
 use Rattle.connection_plan.specs.Clients as stage
 use Rattle.connection_plan.specs.Turns.{change}
 use Rattle.run_contract.specs.declared.turns.Said.TheVariants as said

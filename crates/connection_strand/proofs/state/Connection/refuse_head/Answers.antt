@@ -22,7 +22,7 @@ returns-then-is_all_taken-clause-moves g c =
     if-ok c.finish.result _ _ c.finish.ensures.moves (λ over ends st free did m h.
     ends stage.Flush did (closes v c.args.now.0 (plain stage.Flush) did c.send_refusal.new.self c.send_refusal.new.turn true (sym c.is_all_taken.ensures ∙ c.if-is_all_taken.true)
     (c.in_ok-send_refusal.ensures.moves (plain stage.Flush) did (close_if_taken (service v) c.args.now.0)
-    (refuses-now v c.args.now.0 c.args.code st did c.args.self.now _ c.args.turn.now (service.refusal c.args.code c.args.now.0) free (record { run = refl; waits = refl; sockets = refl; count = refl; keeping = refl; taking = refl })
+    (refuses-now v c.args.now.0 c.args.code st did c.args.self.now _ c.args.turn.now (v.serving.refusal c.args.code c.args.now.0) free (record { run = refl; waits = refl; sockets = refl; count = refl; keeping = refl; taking = refl })
     (ap (λ t. record (kept c.args.self.now.client) { stage = stage.Flush; times = t; reply = stage.Whole true }) c.default_times-self.ensures) refl h))))
 
 pub returns-clause-moves : goal.returns-clause-moves
@@ -33,7 +33,7 @@ returns-clause-moves g c = λ st free did m h.
     done-came v stage.Flush did c.send_refusal.new.self c.send_refusal.new.turn
     (closes v c.args.now.0 (plain stage.Flush) did c.send_refusal.new.self c.send_refusal.new.turn false (sym c.is_all_taken.ensures ∙ c.if-is_all_taken.false)
     (c.in_ok-send_refusal.ensures.moves (plain stage.Flush) did (close_if_taken (service v) c.args.now.0)
-    (refuses-now v c.args.now.0 c.args.code st did c.args.self.now _ c.args.turn.now (service.refusal c.args.code c.args.now.0) free (record { run = refl; waits = refl; sockets = refl; count = refl; keeping = refl; taking = refl })
+    (refuses-now v c.args.now.0 c.args.code st did c.args.self.now _ c.args.turn.now (v.serving.refusal c.args.code c.args.now.0) free (record { run = refl; waits = refl; sockets = refl; count = refl; keeping = refl; taking = refl })
     (ap (λ t. record (kept c.args.self.now.client) { stage = stage.Flush; times = t; reply = stage.Whole true }) c.default_times-self.ensures) refl h)))
 
 pub returns-then-is_all_taken-clause-costs : goal.returns-then-is_all_taken-clause-costs

@@ -24,9 +24,9 @@ returns-in-Act-clause-costs g c =
     (act-costs g.R.RunContract.left g.R.ServiceContract.bound c.in-Act.act c.args.self.now c.take_act.new.self c.args.turn.now c.take_act.new.turn
     (record { sockets = c.take_act.ensures.sockets; keeping = c.take_act.ensures.keeping; kept = c.take_act.ensures.kept; offered = c.take_act.ensures.offered; acts = acts }))) c.take_act.ensures.acts
 
-pub returns-in-Ok-in-Say-clause-moves : goal.returns-in-Ok-in-Say-clause-moves
-returns-in-Ok-in-Say-clause-moves g c =
+pub returns-in-Ok-clause-moves : goal.returns-in-Ok-clause-moves
+returns-in-Ok-clause-moves g c =
     let site = c.args.site.now in
     let v = view_of (g.R.RunContract.meaning site) (g.R.ServiceContract.serving site) in
     subst (λ (x : RunAct g.row.R-Job.Denot). TakesPart v c.args.now.0 true x c.args.self.now c.args.turn.now c.hear_word.new.self c.hear_word.new.turn) (sym c.in-Say.is)
-    (λ rest did m h. takes-word v c.args.now.0 c.in-Say.word rest did c.args.self.now c.hear_word.new.self c.args.turn.now c.hear_word.new.turn m c.in-Ok-in-Say.ensures.moves h)
+    (λ rest did m h. takes-word v c.args.now.0 c.in-Say.word rest did c.args.self.now c.hear_word.new.self c.args.turn.now c.hear_word.new.turn m c.in-Ok.ensures.moves h)
