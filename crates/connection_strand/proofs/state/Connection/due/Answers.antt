@@ -1,4 +1,4 @@
-use Rattle.std.proofs.Common.{ℕ, refl, ap, ◌∙◌, subst}
+use Rattle.std.proofs.Common.{ℕ, false, refl, ap, ◌∙◌, subst}
 use Rattle.strand_contract.specs.declared.turns.Seen.TheVariants as seens
 use Rattle.strand_plans.specs.Moves.{Done}
 use Rattle.connection_strand.specs.Views.{view_of, service}
