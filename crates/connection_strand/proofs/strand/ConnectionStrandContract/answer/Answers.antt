@@ -1,5 +1,5 @@
 use Rattle.std.proofs.Common.{length, ap, arith}
-use Rattle.connection_plan.specs.Serving.{service_of}
+use Rattle.connection_strand.specs.Views.{view_of, service}
 use Rattle.connection_strand.specs.declared.state.Turn.{Turn}
 use Rattle.connection_strand.proofs.Answering.{may-answer, answer-turn, answered-left}
 use Rattle.connection_strand.proofs.Turning.{turned, follows-by}
@@ -8,33 +8,30 @@ use Rattle.connection_strand.proofs.strand.ConnectionStrandContract.answer.Goals
 pub take_answer-requires : goal.take_answer-requires
 take_answer-requires g c =
     let site = c.args.site.now in
-    let r = g.R.RunContract in
+    let v = view_of (g.R.RunContract.meaning site) (g.R.ServiceContract.serving site) in
     let met = g.met.R.RunContract in
-    let service = service_of (r.plan site) (g.R.ServiceContract.serving site) in
-    let u : Turn g.row.R-Job.Denot = record { acts = c.new.result; is_offered = c.is_still_offered.result } in (
-      turned service c.requires.1 c.requires.0,
-      may-answer service (r.holds site) (r.stands site) (met.meets site) c.args.now.0 c.args.answer c.requires.1 c.requires.0 c.args.self.now u c.requires.2 c.requires.3 c.requires.4 c.requires.5
-          c.is_still_offered.ensures c.new.ensures.items,
-    )
+    let u : Turn g.row.R-Job.Denot = record { acts = c.new.result; is_offered = c.is_still_offered.result } in
+    (turned (service v) c.requires.1 c.requires.0,
+    may-answer v (met.meets site) c.args.now.0 c.args.answer c.requires.1 c.requires.0 c.args.self.now u c.requires.2 c.requires.3 c.requires.4 c.requires.5
+        c.is_still_offered.ensures c.new.ensures.items)
 
 pub returns-clause-turn : goal.returns-clause-turn
 returns-clause-turn g c = λ es x follows at e execution.
     let site = c.args.site.now in
-    let r = g.R.RunContract in
+    let v = view_of (g.R.RunContract.meaning site) (g.R.ServiceContract.serving site) in
     let met = g.met.R.RunContract in
-    let service = service_of (r.plan site) (g.R.ServiceContract.serving site) in
     let u : Turn g.row.R-Job.Denot = record { acts = c.new.result; is_offered = c.is_still_offered.result } in
-    follows-by service (r.holds site) (r.stands site) x es c.take_answer.new.self c.take_answer.new.turn (answer-turn service (r.holds site) (r.stands site) (met.meets site) c.args.answer x es e)
-    (c.in_ok-take_answer.ensures.moves (turned service x es)
-    (may-answer service (r.holds site) (r.stands site) (met.meets site) c.args.now.0 c.args.answer x es c.args.self.now u follows at e execution c.is_still_offered.ensures c.new.ensures.items))
+    follows-by v x es c.take_answer.new.self c.take_answer.new.turn (answer-turn v (met.meets site) c.args.answer x es e)
+    (c.in_ok-take_answer.ensures.moves (turned (service v) x es)
+    (may-answer v (met.meets site) c.args.now.0 c.args.answer x es c.args.self.now u follows at e execution c.is_still_offered.ensures c.new.ensures.items))
 
 pub returns-clause-left : goal.returns-clause-left
 returns-clause-left g c =
     let site = c.args.site.now in
-    let r = g.R.RunContract in
+    let v = view_of (g.R.RunContract.meaning site) (g.R.ServiceContract.serving site) in
     let met = g.met.R.RunContract in
     let none = ap length c.new.ensures.items in
-    let on = answered-left (service_of (r.plan site) (g.R.ServiceContract.serving site)) (r.holds site) (r.stands site) (met.meets site) r.left g.R.ServiceContract.bound c.args.answer c.requires.1 c.args.self.now
-    c.requires.0 c.requires.2 c.requires.4 c.requires.5 in
+    let on = answered-left v (met.meets site) g.R.RunContract.left g.R.ServiceContract.bound c.args.answer c.requires.1 c.args.self.now
+        c.requires.0 c.requires.2 c.requires.4 c.requires.5 in
     let falls = c.in_ok-take_answer.ensures.falls in
     omega arith
