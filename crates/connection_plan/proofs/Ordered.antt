@@ -87,6 +87,13 @@ AtStage stage.Drop job all c = Waiting all c.came (asked_so_far c.exchanges)
 abbrev Holds : Bool → List ℕ → Client → Type 0
 Holds job all c = AtStage c.stage job all c
 
+-- the client's next bytes are waited for
+abbrev pub AwaitsBytes : Stage → Type 0
+AwaitsBytes stage.Idle = Unit {0}
+AwaitsBytes stage.Head = Unit {0}
+AwaitsBytes stage.Drop = Unit {0}
+AwaitsBytes st = ⊥
+
 -- a run goes on
 abbrev Runs : Bool → List ℕ → Client → Type 0
 Runs job all c = (c.stage ≡ stage.Busy) × AtStage stage.Busy job all c
@@ -698,3 +705,19 @@ module _ {J R : Type 0} (site : Service J R) where
   asks-in-order es x =
       let c = (state_of (connection_plan site) es).inner.client in
       begins-so (bytes_of es) (asked_so_far c.exchanges) (holds-begins (is_job es) (bytes_of es) c (kept es x).1)
+
+  -- where the client's next bytes are waited for, what is read of them was not asked yet
+  pub reads-next : (es : List (LocalAction J)) → IsExecution (connection_behavior site) es → (st : Stage) → (state_of (connection_plan site) es).inner.client.stage ≡ st → AwaitsBytes st
+      → let c = (state_of (connection_plan site) es).inner.client in Follows c.came [] (bytes_of es) (asked_so_far c.exchanges)
+  reads-next es x st e at = by st at (subst (λ (st : Stage). AtStage st (is_job es) (bytes_of es) c) e (kept es x).1)
+    where
+      c : Client
+      c = (state_of (connection_plan site) es).inner.client
+
+      by : (st : Stage) → AwaitsBytes st → AtStage st (is_job es) (bytes_of es) c → Follows c.came [] (bytes_of es) (asked_so_far c.exchanges)
+      by stage.Idle at h = h.1
+      by stage.Head at h = h.1
+      by stage.Drop at h = h.1
+      by stage.Busy at h = absurd at
+      by stage.Flush at h = absurd at
+      by stage.Over at h = absurd at
