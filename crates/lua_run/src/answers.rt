@@ -1,13 +1,14 @@
 //! What a site of Lua answers a request with.
 
 ghost use Rattle.std.specs.Prelude.{◌≡◌, [], IfErr, IfOk, Ok, Err, option_copied};
+ghost use Rattle.conf.specs.Reading.{IsWhole};
 ghost use Rattle.lua_values.specs.declared.values.Value.{Value as LuaValue};
 ghost use Rattle.lua_run.specs.Answers as spec;
 ghost use Rattle.lua_run.specs.Views.{handler_at, site_seen};
 ghost use Rattle.reply_stages.specs.Views.{scope_seen};
 
 use crate::sites::Site;
-use conf::{LocationConf, Settings};
+use conf::{Conf, LocationConf, Settings};
 use http_in::BodyKind;
 use lua_machine::Machine;
 use lua_values::Value;
@@ -48,6 +49,15 @@ fn answer_in(kind: BodyKind, scope: &Scope<'_>) -> Result<u32, u16>
     } else {
         located(scope.location)
     }
+}
+
+/// Whether a handler makes the reply, and not the server itself.
+pub(crate) fn has_handler(conf: &Conf, req: &Req) -> bool
+    requires { IsWhole conf.now }
+    ensures { result ≡ spec.has_handler conf.now req.now }
+{
+    let scope = scope_of(conf, &req.target);
+    answer_in(req.head.body, &scope).is_ok()
 }
 
 /// What is sent, and the line of the log that is written before it, if any.

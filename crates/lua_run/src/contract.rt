@@ -1,5 +1,8 @@
 //! The contract of a run, met.
 
+ghost use Rattle.std.specs.Prelude.{◌≡◌, true};
+
+use crate::answers::has_handler;
 use crate::run::{Work, queueing, silent, working};
 use crate::{LuaRun, Site};
 use http_in::Head;
@@ -13,6 +16,18 @@ use std::mem::replace;
 use strand_contract::Answer;
 use uri_args::Target;
 
+/// A run that has this to do for its client.
+fn answering<M>(work: Work) -> LuaRun<M>
+    ensures work { result.work ≡ work }
+    ensures client { result.has_client ≡ true }
+{
+    LuaRun {
+        work,
+        has_client: true,
+        machine: PhantomData,
+    }
+}
+
 impl<M: Machine> RunContract for LuaRun<M> {
     ghost use Rattle.std.specs.Prelude.{◌≡◌, ◌+◌, if◌then◌else◌};
     ghost use Rattle.lua_run.specs.Runs.{Run, lua_plan, LuaHolds, left_of_work};
@@ -25,11 +40,11 @@ impl<M: Machine> RunContract for LuaRun<M> {
 
     ghost Inner = { Run };
 
-    ghost plan = { λ site. lua_plan (site_seen M.life site) };
-
-    ghost holds = { λ site b r. LuaHolds b r };
-
-    ghost stands = { λ site run b r. (run.work ≡ r.work) × (run.has_client ≡ r.client) };
+    ghost meaning = { λ site. record {
+      plan = lua_plan (site_seen M.life site);
+      holds = λ b r. LuaHolds b r;
+      stands = λ run b r. (run.work ≡ r.work) × (run.has_client ≡ r.client);
+    } };
 
     ghost left = { λ run. left_of_work run.work + (if run.has_client then 1 else 0) };
 
@@ -59,18 +74,20 @@ impl<M: Machine> RunContract for LuaRun<M> {
 
     fn begin(
         alloc: Global,
-        _site: &Site<M>,
-        _now: Ms,
+        site: &Site<M>,
+        now: Ms,
         _sockets: u32,
         head: Head,
         target: Target,
     ) -> Result<(Self, RunTurn<NoJob>), AllocError> {
-        let run = LuaRun {
-            work: Work::Request(Req::begin(alloc, head, target, 0)),
-            has_client: true,
-            machine: PhantomData,
-        };
-        Ok((run, queueing(alloc)?))
+        let req = Req::begin(alloc, head, target, 0);
+        if has_handler(&site.conf, &req) {
+            let turn = queueing(alloc)?;
+            Ok((answering(Work::Request(req)), turn))
+        } else {
+            let turn = working(alloc, site, now, Work::Request(req))?;
+            Ok((answering(Work::Over), turn))
+        }
     }
 
     fn begin_job(
@@ -108,6 +125,8 @@ impl<M: Machine> RunContract for LuaRun<M> {
             | RunSeen::Body(_, _)
             | RunSeen::BodyRefused(_)
             | RunSeen::AllTaken
+            | RunSeen::NotYet
+            | RunSeen::ClientEnded
             | RunSeen::Sock(_, _) => Ok(silent(alloc)),
         }
     }

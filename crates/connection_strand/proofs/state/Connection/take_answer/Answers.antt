@@ -32,7 +32,7 @@ settle_all-requires g c =
       kept = ap (λ (k : Connection g.row.R.Denot). record k { keeping = None }) c.in_ok-take_in.ensures.kept;
     } in
     let t = went-toward v c.in_ok-goes_on.goes_on c.requires.0 c.answered.new.self c.answered.new.turn (settle (service v) now) c.if-not-goes_on.false
-        (c.in_ok-goes_on.ensures.moves c.requires.0 (settle (service v) now) (c.requires.1 d took)) in
+    (c.in_ok-goes_on.ensures.moves c.requires.0 (settle (service v) now) (c.requires.1 d took)) in
     (t.0, (t.1.ledger, t.1.inner, t.1.within))
 
 pub returns-then-not-goes_on-clause-moves : goal.returns-then-not-goes_on-clause-moves
@@ -47,7 +47,7 @@ returns-then-not-goes_on-clause-moves g c = λ did given.
       kept = ap (λ (k : Connection g.row.R.Denot). record k { keeping = None }) c.in_ok-take_in.ensures.kept;
     } in
     went-came v c.in_ok-goes_on.goes_on did c.answered.new.self c.answered.new.turn (settle (service v) now) c.if-not-goes_on.true
-        (c.in_ok-goes_on.ensures.moves did (settle (service v) now) (given d took))
+    (c.in_ok-goes_on.ensures.moves did (settle (service v) now) (given d took))
 
 pub returns-clause-moves : goal.returns-clause-moves
 returns-clause-moves g c =
@@ -62,7 +62,7 @@ returns-clause-moves g c =
     } in
     ok-map c.settle_all.result _ _ (λ done ends. λ did given.
     let t = went-toward v c.in_ok-goes_on.goes_on did c.answered.new.self c.answered.new.turn (settle (service v) now) c.if-not-goes_on.false
-        (c.in_ok-goes_on.ensures.moves did (settle (service v) now) (given d took)) in
+    (c.in_ok-goes_on.ensures.moves did (settle (service v) now) (given d took)) in
     ends t.0 did t.1) c.settle_all.ensures.moves
 
 pub returns-then-not-goes_on-clause-falls : goal.returns-then-not-goes_on-clause-falls
@@ -80,7 +80,7 @@ returns-then-not-goes_on-clause-falls g c =
     let few = subst (λ ks. length ks ≤ length old.sockets.items + 1) (sym took.sockets) (answered-few c.args.answer old.keeping old.count old.sockets.items) in
     let pays = c.in_ok-goes_on.ensures.costs (answered-runs v now c.args.answer c.requires.0 d c.args.turn.now (settle (service v) now) (c.requires.1 d took)) in
     answered-falls g.R.RunContract.left g.R.ServiceContract.bound old d c.answered.new.self c.args.turn.now c.answered.new.turn
-        (answered-opens g.R.RunContract.left g.R.ServiceContract.bound old d took.kept few) pays
+    (answered-opens g.R.RunContract.left g.R.ServiceContract.bound old d took.kept few) pays
 
 pub returns-clause-falls : goal.returns-clause-falls
 returns-clause-falls g c =
@@ -98,4 +98,4 @@ returns-clause-falls g c =
     let pays = c.in_ok-goes_on.ensures.costs (answered-runs v now c.args.answer c.requires.0 d c.args.turn.now (settle (service v) now) (c.requires.1 d took)) in
     ok-map c.settle_all.result _ _ (λ done costs.
     answered-settled g.R.RunContract.left g.R.ServiceContract.bound old d c.answered.new.self c.settle_all.new.self c.args.turn.now c.answered.new.turn c.settle_all.new.turn
-        (answered-opens g.R.RunContract.left g.R.ServiceContract.bound old d took.kept few) pays costs) c.settle_all.ensures.costs
+    (answered-opens g.R.RunContract.left g.R.ServiceContract.bound old d took.kept few) pays costs) c.settle_all.ensures.costs
