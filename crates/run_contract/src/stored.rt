@@ -144,9 +144,11 @@ impl RunContract for StoredReply {
         _site: &StoredSite,
         _now: Ms,
         _sockets: u32,
-        _head: Head,
-        _target: Target,
+        head: Head,
+        target: Target,
     ) -> Result<(Self, RunTurn<NoJob>), AllocError> {
+        drop(head);
+        drop(target);
         let run = StoredReply {
             progress: Progress::Queued,
             has_client: true,
