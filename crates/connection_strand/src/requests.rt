@@ -1,7 +1,7 @@
 //! Requests in turn: heads that are heard, and what is waited for; and the end of a client.
 
 use crate::client::{Reply, Stage, Timer};
-use crate::state::{Connection, Turn, put};
+use crate::state::{Connection, Turn, going, put};
 use crate::waits::Waits;
 use client_line::{Held, LineOut};
 use connection_plan::ServiceContract;
@@ -157,7 +157,10 @@ impl<R: ServiceContract> Connection<R> {
                 self.waits = Waits::at_first(true);
                 self.take_run(turn, site, now, begun)
             }
-            Err(error) => Err(error),
+            Err(error) => {
+                drop(begun);
+                Err(error)
+            }
         }
     }
 
@@ -302,10 +305,7 @@ impl<R: ServiceContract> Connection<R> {
             LineOut::Request(head, target) => {
                 self.begin_request(turn, alloc, site, now, head, target)
             }
-            LineOut::Refused(code) => {
-                self.refuse(turn, alloc, site, now, code)?;
-                Ok(false)
-            }
+            LineOut::Refused(code) => going(self.refuse(turn, alloc, site, now, code), false),
             LineOut::Waiting => self.hear_no_more(turn, site, now, anew),
             LineOut::Memory => Err(AllocError),
         }

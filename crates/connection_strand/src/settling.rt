@@ -1,7 +1,7 @@
 //! After a turn's own moves: the run is told what it waits for, and the next requests begin.
 
 use crate::client::{Stage, Timer};
-use crate::state::{Connection, Turn};
+use crate::state::{Connection, Turn, going};
 use connection_plan::ServiceContract;
 use resty_base::Ms;
 use run_contract::{Asking, RunSeen};
@@ -146,10 +146,7 @@ impl<R: ServiceContract> Connection<R> {
             return self.tell(turn, alloc, site, now, RunSeen::AllTaken);
         }
         if self.client.is_to_close() {
-            return match self.lose(turn, alloc, site, now) {
-                Ok(()) => Ok(false),
-                Err(error) => Err(error),
-            };
+            return going(self.lose(turn, alloc, site, now), false);
         }
         if self.waits.body {
             return self.ask_body(turn, alloc, site, now);

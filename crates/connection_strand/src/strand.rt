@@ -53,9 +53,9 @@ impl<R: ServiceContract> Connection<R> {
     ghost use Rattle.connection_strand.specs.Following.{IsNew, Follows, is_client};
     ghost use Rattle.connection_strand.specs.Kept.{kept, fresh, waits_of, wants_offer};
     ghost use Rattle.connection_strand.specs.Acts.{sockets_with, count_with};
-    ghost use Rattle.connection_strand.specs.Costs.{Falls};
+    ghost use Rattle.connection_strand.specs.Costs.{Falls, FallsBy};
     ghost use Rattle.connection_strand.specs.Shown.{HasPieceAt, offered_as};
-    ghost use Rattle.connection_strand.specs.Turns.{MayTakeAnswer, TakesAnswer};
+    ghost use Rattle.connection_strand.specs.Turns.{MayTakeAnswer, TakesAnswer, MayGiveAnswer, GivesAnswer};
 
     /// A connection that begins, with or without a client; takes no memory.
     fn new(alloc: Global, site: &R::Site, is_open: bool) -> Connection<R>
@@ -187,8 +187,32 @@ impl<R: ServiceContract> Connection<R> {
             answer self.old turn.old self.new turn.new) }
         ensures falls { IfOk result (λ done. Falls R.left R.bound self.old turn.old self.new turn.new) }
     {
-        self.take_in(&answer)?;
-        self.keeping = None;
+        match self.take_in(&answer) {
+            Ok(()) => {
+                self.keeping = None;
+                self.give_answer(turn, alloc, site, now, answer)
+            }
+            Err(error) => {
+                drop(answer);
+                Err(error)
+            }
+        }
+    }
+
+    /// The run is given the answer, and what is there is settled.
+    fn give_answer(
+        &mut self,
+        turn: &mut Turn<R::Job>,
+        alloc: Global,
+        site: &R::Site,
+        now: Ms,
+        answer: Answer,
+    ) -> Result<(), AllocError>
+        requires { let view = view_of (R.meaning site.now) (R.serving site.now) in MayGiveAnswer view now.0 answer self.old turn.old }
+        ensures moves { let view = view_of (R.meaning site.now) (R.serving site.now) in IfOk result (λ done.
+            GivesAnswer view now.0 answer self.old turn.old self.new turn.new) }
+        ensures falls { IfOk result (λ done. FallsBy R.left R.bound 3 self.old turn.old self.new turn.new) }
+    {
         let goes_on = self.answered(turn, alloc, site, now, answer)?;
         if !goes_on {
             return Ok(());

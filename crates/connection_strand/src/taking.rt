@@ -3,7 +3,7 @@
 ghost use Rattle.std.specs.Prelude.{◌≡◌, ◌++◌, [], None};
 ghost use Rattle.connection_strand.specs.Acts.{is_question, kept_with, sockets_after, without_all};
 
-use crate::state::{Connection, Turn, put};
+use crate::state::{Connection, Turn, going, put};
 use connection_plan::ServiceContract;
 use resty_base::Ms;
 use run_contract::{RunAct, RunSeen, RunTurn};
@@ -65,10 +65,7 @@ impl<R: ServiceContract> Connection<R> {
             Act::Keep(number, _, _, _) => self.keeping = Some(*number),
             _ => {}
         }
-        match put(&mut turn.acts, act) {
-            Ok(()) => Ok(goes_on),
-            Err(error) => Err(error),
-        }
+        going(put(&mut turn.acts, act), goes_on)
     }
 
     /// Takes a part of the run's turn: an act, or a word, which is heard. It reports whether the connection's turn goes on.
@@ -85,10 +82,7 @@ impl<R: ServiceContract> Connection<R> {
     {
         match part {
             RunAct::Act(act) => self.take_act(turn, act),
-            RunAct::Say(word) => match self.hear_word(turn, site, now, &word) {
-                Ok(()) => Ok(true),
-                Err(error) => Err(error),
-            },
+            RunAct::Say(word) => going(self.hear_word(turn, site, now, &word), true),
         }
     }
 
@@ -177,7 +171,10 @@ impl<R: ServiceContract> Connection<R> {
                 let next = run.given(alloc, site, now, seen);
                 self.take_next(turn, site, now, next)
             }
-            None => Ok(false),
+            None => {
+                drop(seen);
+                Ok(false)
+            }
         }
     }
 
@@ -202,7 +199,10 @@ impl<R: ServiceContract> Connection<R> {
                 let next = run.answer(alloc, site, now, answer);
                 self.take_next(turn, site, now, next)
             }
-            None => Ok(false),
+            None => {
+                drop(answer);
+                Ok(false)
+            }
         }
     }
 }
