@@ -1,12 +1,10 @@
 -- The reply to a request, for the scope that was found.
-use Rattle.std.proofs.Common.{◌≡◌, ℕ, Some, Result, Ok, Err, IfOk, IfErr, sym, ap, ◌∙◌}
-use Rattle.std.specs.Prelude.{is_ok}
-use Rattle.conf.specs.declared.sites.Conf.{Conf}
+use Rattle.std.proofs.Common.{◌≡◌, ℕ, Some, Result, Ok, Err, IfOk, sym, ap, ◌∙◌}
 use Rattle.conf.specs.declared.sites.Settings.{Settings}
 use Rattle.request_api.specs.declared.requests.Req.{Req}
 use Rattle.reply_stages.specs.Scopes.{Scope, settings_of, scope_of}
 use Rattle.lua_run.specs.declared.answers.Replied.{Replied}
-use Rattle.lua_run.specs.Answers.{Site, answer_in, has_handler_in, has_handler, replied, with_keepalive, reply_by, reply_of}
+use Rattle.lua_run.specs.Answers.{Site, answer_in, replied, with_keepalive, reply_by, reply_of}
 
 replied-is : (site : Site) (req kept : Req) (now : ℕ) (scope : Scope) (settings : Settings) (answer : Result ℕ ℕ)
     → scope_of site.conf req.target ≡ Some scope → settings ≡ settings_of scope → answer_in req.head.body scope ≡ answer
@@ -23,10 +21,3 @@ pub reply-is : {E : Type 0} (result : Result Replied E) (site : Site) (req kept 
 reply-is (Ok r) site req kept now scope settings answer found holds given is made =
     made ∙ replied-is site req kept now scope settings answer found holds given is
 reply-is (Err e) site req kept now scope settings answer found holds given is made = tt
-
--- whether a handler makes it
-pub handler-is : (conf : Conf) (req : Req) (scope : Scope) (answer : Result ℕ ℕ) → scope_of conf req.target ≡ Some scope
-    → IfOk answer (λ number. answer_in req.head.body scope ≡ Ok number) → IfErr answer (λ status. answer_in req.head.body scope ≡ Err status)
-    → is_ok answer ≡ has_handler conf req
-handler-is conf req scope (Ok number) found ok err = sym (ap is_ok ok) ∙ sym (ap (λ o. has_handler_in req.head.body o) found)
-handler-is conf req scope (Err status) found ok err = sym (ap is_ok err) ∙ sym (ap (λ o. has_handler_in req.head.body o) found)

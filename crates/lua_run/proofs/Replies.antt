@@ -107,9 +107,11 @@ module _ {J : Type 0} (es : List (LocalAction J)) (site : Site) where
   ]
 
   -- it begins with a thread in line, or replies at once
+  abbrev begun_by : Beginning → Bool → Alone J Run
+  begun_by x c = after_turn (begins_by c site x.now (record { work = Request (request.begun x.head x.target 0); client = true })) (own_ledger x.sockets) [] []
+
   begins : (x : Beginning) (at : List (LocalAction J)) → IsUpTo es at → moment at ≡ x.now → (c : Bool)
-      → has_handler site.conf (request.begun x.head x.target 0) ≡ c → let r = record { work = Request (request.begun x.head x.target 0); client = true } in
-      Stands x.head x.target (after_turn (begins_by c site x.now r) (own_ledger x.sockets) [] [])
+      → has_handler site.conf (request.begun x.head x.target 0) ≡ c → Stands x.head x.target (begun_by x c)
   begins x at up e true h = inl (record { work = refl; silent = refl; handled = h })
   begins x at up e false h =
       inr (record { work = refl; before = at; up_to = up; said = ap (λ n. words_of (reply_deeds (reply_at x.head x.target n))) (sym e) })

@@ -1,5 +1,5 @@
 -- That the runs of a site of Lua meet the conditions of a run.
-use Rattle.std.proofs.Common.{◌≡◌, ℕ, ◌≤◌, ◌<◌, Bool, true, false, ◌&&◌, List, [], ◌∷◌, drop, Option, Some, None, refl, sym, ap, ◌∙◌, subst, arith, lit<}
+use Rattle.std.proofs.Common.{◌≡◌, ℕ, ◌≤◌, ◌<◌, Bool, true, false, ◌&&◌, List, [], ◌∷◌, drop, Option, Some, None, refl, sym, ap, ◌∙◌, subst, arith}
 use Rattle.std.specs.Prelude.{nat_lt, nat_le, IfSome, if◌then◌else◌}
 use Rattle.resty_base.specs.declared.names.Ms.{Ms}
 use Rattle.resty_base.specs.BoolLaws.{one-falls}
