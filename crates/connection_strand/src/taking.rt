@@ -51,7 +51,11 @@ impl<R: ServiceContract> Connection<R> {
     ghost use Rattle.connection_strand.specs.Turns.{Told, Answered, TakesTurn, TakesPart};
 
     /// Makes an act of the run its own. It reports whether the connection's turn goes on: a question ends it.
-    fn take_act(&mut self, turn: &mut Turn<R::Job>, act: Act<R::Job>) -> Result<bool, AllocError>
+    fn take_act(
+        &mut self,
+        turn: &mut Turn<R::Job>,
+        act: Act<R::Job>,
+    ) -> Result<bool, AllocError>
         ensures goes_on { IfOk result (λ on. on ≡ not (is_question act)) }
         ensures acts { IfOk result (λ on. turn.new.acts.items ≡ turn.old.acts.items ++ act ∷ []) }
         ensures offered { turn.new.is_offered ≡ turn.old.is_offered }
