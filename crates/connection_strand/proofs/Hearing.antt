@@ -1,5 +1,5 @@
 -- Requests in turn: where no run is, one begins, a head is refused, or more is waited for.
-use Rattle.std.proofs.Common.{◌≡◌, ℕ, Bool, true, false, not, ◌&&◌, ◌||◌, ◌⊎◌, inl, inr, List, [], Some, None, if◌then◌else◌, refl, sym, ap, ◌∙◌, subst}
+use Rattle.std.proofs.Common.{◌≡◌, ℕ, Bool, true, false, not, ◌&&◌, ◌||◌, ◌⊎◌, inl, inr, List, [], Some, if◌then◌else◌, refl, sym, ap, ◌∙◌, subst}
 use Rattle.uri_args.specs.declared.targets.Target.{Target}
 use Rattle.http_in.specs.declared.heads.Head.{Head}
 use Rattle.client_line.specs.declared.requests.LineOut.{LineOut}
@@ -19,7 +19,7 @@ use Rattle.run_contract.specs.Calls as calls
 use Rattle.run_contract.specs.Conditions.{IsBlank, IsRun, Leaves}
 use Rattle.connection_plan.specs.Clients.{Stage, Client, with_request, with_refusal, closes_after}
 use Rattle.connection_plan.specs.Clients as stage
-use Rattle.connection_plan.specs.Services.{Service, Both}
+use Rattle.connection_plan.specs.Services.{Both}
 use Rattle.connection_plan.specs.Timers as timer
 use Rattle.connection_plan.specs.Conditions.{AgreesWithin}
 use Rattle.connection_plan.specs.Turns.{is_there, is_all_taken, change, send, begin, end_timer, finish, close_if_taken, refuse, wait_for, heard_by, next, flush}
