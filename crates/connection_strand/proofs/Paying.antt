@@ -111,9 +111,6 @@ module _ {R J : Type 0} (left : R → ℕ) (bound : ℕ) where
       → Taking parts c u more e w
   takes-on parts rest more c d e u v w l h k = let f = unit-one (length more) (length rest) (omega arith) in omega arith
 
-  pub takes-all : (parts : List (RunAct J)) (n : ℕ) (c d : Connection R) (u v : Turn J) → Taking parts c u [] d v → Spends left bound (unit * (length parts + n)) c u d v
-  takes-all parts n c d u v h = let e = unit-and (length parts) n in omega arith
-
   pub tells-costs : (n : ℕ) (old new : R) (c d c' : Connection R) (u u' : Turn J) → c.run ≡ Some old → d.run ≡ Some new → d.client ≡ c.client → d.sockets ≡ c.sockets
       → left new + n < left old → Spends left bound (unit * n) d u c' u' → Pays left bound unit c u c' u'
   tells-costs n old new c d c' u u' was is client socks less h =

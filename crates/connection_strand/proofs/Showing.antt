@@ -512,9 +512,6 @@ module _ {R J I : Type 0} (v : View R J I)
       let f : m ≡ length (take n piece) = e ∙ ap (λ (xs : List ℕ). min (length xs) n) whole ∙ min_comm (length piece) n ∙ sym (length-take n piece) in
       subst (λ (i : ℕ). 0 < i) (sym f) h.comes.some
 
-  pub here-open : (x : Seen) (did : Performed J (Both I)) (c : Connection R) (u : Turn J) (h : Shows x did c u) → is_there h.ledger ≡ true → c.client.is_open ≡ true
-  here-open x did c u h there = ap (λ (k : Kept). k.opened) h.client ∙ there
-
   -- ---- the client sends no more
 
   ends-by : (e : Moment J) (did : Performed J (Both I)) (c c' : Connection R) (u : Turn J) (m : Move J (Both I)) → IsSameRun c c' → kept c'.client ≡ record (kept c.client) { ended = true }
