@@ -16,7 +16,7 @@ use Rattle.run_contract.specs.Alike.{AreAlike}
 use Rattle.run_contract.specs.Conditions.{IsRun, MayCome, MayHear, asks_body, asks_taken, entered_as}
 use Rattle.connection_plan.specs.Clients.{Client}
 use Rattle.connection_plan.specs.Clients as stage
-use Rattle.connection_plan.specs.Services.{Service, Both}
+use Rattle.connection_plan.specs.Services.{Both}
 use Rattle.connection_plan.specs.Turns.{is_there, body_told, tell_body, ask_body, answer_body, answer_asked}
 use Rattle.connection_strand.specs.Views.{View, service}
 use Rattle.connection_strand.specs.declared.state.Connection.{Connection}

@@ -14,7 +14,7 @@ use Rattle.run_contract.specs.Calls as calls
 use Rattle.run_contract.specs.Conditions.{IsRun, IsBlank, Leaves}
 use Rattle.connection_plan.specs.Clients.{new_client}
 use Rattle.connection_plan.specs.Clients as stage
-use Rattle.connection_plan.specs.Services.{Service, Both}
+use Rattle.connection_plan.specs.Services.{Both}
 use Rattle.connection_plan.specs.Timers as timer
 use Rattle.connection_plan.specs.Turns.{begin_timer, run_turn}
 use Rattle.connection_plan.specs.Connections.{connection_plan}

@@ -15,7 +15,6 @@ use Rattle.strand_plans.proofs.Executions.{is-idle}
 use Rattle.send_queue.specs.Queues as queues
 use Rattle.strand_plans.proofs.Tidy.{IsTidyLedger}
 use Rattle.run_contract.specs.Conditions.{IsRun}
-use Rattle.connection_plan.specs.Services.{Service}
 use Rattle.connection_plan.specs.Conditions.{MayAsk}
 use Rattle.connection_plan.specs.Connections.{connection_plan, connection_behavior}
 use Rattle.connection_plan.proofs.Meets.{meets}

@@ -1,24 +1,22 @@
 -- Requests in turn: what heads lead to, what is waited for, and the end of a client.
-use Rattle.std.proofs.Common.{◌≡◌, ℕ, Bool, true, false, not, ◌&&◌, [], Some, None, if◌then◌else◌, refl, sym, ap, ◌∙◌, subst}
+use Rattle.std.proofs.Common.{◌≡◌, Bool, true, false, not, ◌&&◌, [], if◌then◌else◌, refl, sym, ap, ◌∙◌, subst}
 use Rattle.strand_contract.specs.declared.turns.Place.TheVariants as place
 use Rattle.strand_contract.specs.Alone.{is_some_left}
 use Rattle.strand_plans.specs.Ledgers.{Ledger, left_at}
 use Rattle.strand_plans.specs.Moves.{Move, Performed, perform}
-use Rattle.run_contract.specs.declared.turns.RunSeen.{RunSeen}
 use Rattle.run_contract.specs.Alike.{AreAlike}
-use Rattle.run_contract.specs.Calls as runs
-use Rattle.run_contract.specs.Conditions.{IsRun, MayCome, entered_as}
+use Rattle.run_contract.specs.Conditions.{IsRun}
 use Rattle.connection_plan.specs.Clients.{Stage, Client}
 use Rattle.connection_plan.specs.Clients as stage
-use Rattle.connection_plan.specs.Services.{Service, Both}
-use Rattle.connection_plan.specs.Turns.{is_there, is_all_taken, tell}
-use Rattle.connection_strand.specs.Views.{View, service}
+use Rattle.connection_plan.specs.Services.{Both}
+use Rattle.connection_plan.specs.Turns.{is_there, is_all_taken}
+use Rattle.connection_strand.specs.Views.{View}
 use Rattle.connection_strand.specs.declared.state.Connection.{Connection}
 use Rattle.connection_strand.specs.declared.state.Turn.{Turn}
 use Rattle.connection_strand.specs.declared.client.Stage as own
 use Rattle.connection_strand.specs.declared.client.Stage.TheVariants as code
 use Rattle.connection_strand.specs.Kept.{Kept, kept_of, stage_of, all_taken}
-use Rattle.connection_strand.specs.Standing.{Moment, plain, IsOn, IsFree, IsAt, Serves, Toward, before}
+use Rattle.connection_strand.specs.Standing.{Moment, plain, IsOn, IsFree, IsAt, Toward, before}
 
 pub all-taken-is : {J : Type 0} (b : Ledger J) (x : Client) → all_taken (kept_of b x) ≡ is_all_taken b
 all-taken-is b x = by (is_there b)

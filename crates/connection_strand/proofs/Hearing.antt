@@ -1,5 +1,5 @@
 -- Requests in turn: where no run is, one begins, a head is refused, or more is waited for.
-use Rattle.std.proofs.Common.{◌≡◌, ℕ, Bool, true, false, not, ◌&&◌, ◌||◌, ◌⊎◌, inl, inr, List, [], Some, None, if◌then◌else◌, refl, sym, ap, ◌∙◌, subst}
+use Rattle.std.proofs.Common.{◌≡◌, ℕ, Bool, true, false, not, ◌&&◌, ◌⊎◌, inl, inr, List, [], Some, if◌then◌else◌, refl, sym, ap, ◌∙◌, subst}
 use Rattle.uri_args.specs.declared.targets.Target.{Target}
 use Rattle.http_in.specs.declared.heads.Head.{Head}
 use Rattle.client_line.specs.declared.requests.LineOut.{LineOut}
@@ -19,10 +19,10 @@ use Rattle.run_contract.specs.Calls as calls
 use Rattle.run_contract.specs.Conditions.{IsBlank, IsRun, Leaves}
 use Rattle.connection_plan.specs.Clients.{Stage, Client, with_request, with_refusal, closes_after}
 use Rattle.connection_plan.specs.Clients as stage
-use Rattle.connection_plan.specs.Services.{Service, Both}
+use Rattle.connection_plan.specs.Services.{Both}
 use Rattle.connection_plan.specs.Timers as timer
 use Rattle.connection_plan.specs.Conditions.{AgreesWithin}
-use Rattle.connection_plan.specs.Turns.{is_there, is_all_taken, change, send, begin, end_timer, finish, close_if_taken, refuse, wait_for, heard_by, next, flush}
+use Rattle.connection_plan.specs.Turns.{is_there, is_all_taken, change, send, begin, end_timer, finish, close_if_taken, refuse, wait_for, heard_by, next}
 use Rattle.connection_strand.specs.Views.{View, service}
 use Rattle.connection_strand.specs.declared.state.Connection.{Connection}
 use Rattle.connection_strand.specs.declared.state.Turn.{Turn}
@@ -245,37 +245,6 @@ module _ {R J I : Type 0} (v : View R J I) where
   hears-nothing now anew rest x e did c u is ended anew-is h =
       let n = hears-waiting now anew false rest x e did c u is ended anew-is h in
       record { ledger = n.ledger; inner = n.inner; within = n.within; leads = n.leads }
-
-  -- ---- a reply that is to be taken
-
-  abbrev pub Flushes : ℕ → Move J (Both I) → Moment J → Performed J (Both I) → Connection R → Turn J → Type 0
-  Flushes now rest e did c u = To e did c u (Look (λ b s. flush (service v) now rest b s.client))
-
-  pub flushes-not : (now : ℕ) (rest : Move J (Both I)) (e : Moment J) (did : Performed J (Both I)) (c : Connection R) (u : Turn J) → all_taken (kept c.client) ≡ false
-      → Flushes now rest e did c u → To e did c u Done
-  flushes-not now rest e did c u is h =
-      looks _ _ e did c u h (ap (λ (x : Bool). if not x then Done else (if not (is_there h.ledger) || closes_after h.inner.client.reply then finish else next (service v) now rest h.inner.client))
-      (sym (taken-is c u h.ledger h.inner h.within.serves) ∙ is))
-
-  pub flushes-end : (now : ℕ) (y : Bool) (rest : Move J (Both I)) (e : Moment J) (did : Performed J (Both I)) (c : Connection R) (u : Turn J) → all_taken (kept c.client) ≡ true
-      → (not (kept c.client).opened || closes_after (kept c.client).reply) ≡ y
-      → Flushes now rest e did c u → To e did c u (Look (λ b s. if y then finish else next (service v) now rest s.client))
-  flushes-end now y rest e did c u is ends h =
-      let n = looks _ (if y then finish else next (service v) now rest h.inner.client) e did c u h
-      (ap (λ (x : Bool). if not x then Done else (if not (is_there h.ledger) || closes_after h.inner.client.reply then finish else next (service v) now rest h.inner.client))
-      (sym (taken-is c u h.ledger h.inner h.within.serves) ∙ is)
-      ∙ ap (λ (x : Bool). if x then finish else next (service v) now rest h.inner.client) (sym (ap (λ (k : Kept). not k.opened || closes_after k.reply) h.within.serves.client) ∙ ends)) in
-      record { ledger = n.ledger; inner = n.inner; within = n.within; leads = n.leads }
-
-  pub flushes-finish : (now : ℕ) (rest : Move J (Both I)) (e : Moment J) (did : Performed J (Both I)) (c : Connection R) (u : Turn J) → all_taken (kept c.client) ≡ true
-      → (not (kept c.client).opened || closes_after (kept c.client).reply) ≡ true → Flushes now rest e did c u → To e did c u finish
-  flushes-finish now rest e did c u is ends h =
-      let n = flushes-end now true rest e did c u is ends h in record { ledger = n.ledger; inner = n.inner; within = n.within; leads = n.leads }
-
-  pub flushes-next : (now : ℕ) (rest : Move J (Both I)) (e : Moment J) (did : Performed J (Both I)) (c : Connection R) (u : Turn J) → all_taken (kept c.client) ≡ true
-      → (not (kept c.client).opened || closes_after (kept c.client).reply) ≡ false → Flushes now rest e did c u → To e did c u (Look (λ b s. next (service v) now rest s.client))
-  flushes-next now rest e did c u is ends h =
-      let n = flushes-end now false rest e did c u is ends h in record { ledger = n.ledger; inner = n.inner; within = n.within; leads = n.leads }
 
 pub refused-so : (x : LineOut) (code : ℕ) (at : At) → x ≡ out.Refused code → IsAnswered x at → IsRefusedAt at
 refused-so x code at e h = subst (λ (y : LineOut). IsAnswered y at) e h

@@ -1,9 +1,8 @@
 -- What the loop that settles keeps.
 use Rattle.std.proofs.Common.{◌≡◌, ℕ, ◌<◌, ◌+◌, Bool, true, false, length, refl, arith}
-use Rattle.strand_plans.specs.Ledgers.{Ledger}
 use Rattle.strand_plans.specs.Moves.{Move, Performed, perform}
 use Rattle.connection_plan.specs.Clients.{Stage}
-use Rattle.connection_plan.specs.Services.{Service, Both}
+use Rattle.connection_plan.specs.Services.{Both}
 use Rattle.connection_plan.specs.Turns.{settle}
 use Rattle.connection_strand.specs.Views.{View, service}
 use Rattle.connection_strand.specs.declared.state.Connection.{Connection}

@@ -15,7 +15,7 @@ use Rattle.run_contract.specs.Runs.{Waits, waits_did}
 use Rattle.run_contract.specs.Conditions.{IsRun}
 use Rattle.connection_plan.specs.Clients.{Stage, Client}
 use Rattle.connection_plan.specs.Clients as stage
-use Rattle.connection_plan.specs.Services.{Service, Both}
+use Rattle.connection_plan.specs.Services.{Both}
 use Rattle.connection_plan.specs.Timers.{Timer, number_of, time_of, later}
 use Rattle.connection_plan.specs.Turns.{is_there, begin_timer, end_timer}
 use Rattle.connection_plan.specs.Conditions.{AgreesWithin}

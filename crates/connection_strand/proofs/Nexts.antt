@@ -14,7 +14,7 @@ use Rattle.strand_plans.specs.Moves.{Move, Performed, Look, perform}
 use Rattle.run_contract.specs.Alike.{AreAlike}
 use Rattle.run_contract.specs.Conditions.{IsRun}
 use Rattle.connection_plan.specs.Clients.{Stage}
-use Rattle.connection_plan.specs.Services.{Service, Both}
+use Rattle.connection_plan.specs.Services.{Both}
 use Rattle.connection_plan.specs.Turns.{heard_by, next}
 use Rattle.connection_strand.specs.Views.{View, service}
 use Rattle.connection_strand.specs.declared.state.Connection.{Connection}

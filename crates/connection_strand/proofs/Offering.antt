@@ -14,7 +14,7 @@ use Rattle.strand_plans.proofs.Places.{has-append}
 use Rattle.run_contract.specs.Alike.{AreAlike}
 use Rattle.run_contract.specs.Conditions.{IsRun}
 use Rattle.connection_plan.specs.Clients.{with_more}
-use Rattle.connection_plan.specs.Services.{Service, Both}
+use Rattle.connection_plan.specs.Services.{Both}
 use Rattle.connection_plan.specs.Turns.{is_there, change, send}
 use Rattle.connection_plan.proofs.Alike.{sent-alike}
 use Rattle.connection_plan.proofs.Lifted.{SameRun}

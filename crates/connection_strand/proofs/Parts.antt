@@ -8,7 +8,7 @@ use Rattle.strand_contract.specs.Alone.{without_place}
 use Rattle.strand_plans.specs.Questions.{Question, asking_if}
 use Rattle.strand_plans.specs.Questions as question
 use Rattle.strand_plans.specs.Ledgers.{Ledger, has, has_number, numbers, is_place, wants_offer}
-use Rattle.strand_plans.specs.Moves.{Move, Ask, Performed, act_if, after_act_if, with_sent, with_offer, with_thread, hung_up, asked_of, perform}
+use Rattle.strand_plans.specs.Moves.{Move, Ask, Performed, after_act_if, with_sent, with_offer, with_thread, hung_up, asked_of, perform}
 use Rattle.strand_plans.specs.Tidiness.{NumbersOnce}
 use Rattle.strand_plans.proofs.Once.{once-disarmed, once-armed}
 use Rattle.run_contract.specs.declared.turns.RunAct.{RunAct}
@@ -334,8 +334,12 @@ module _ {R J I : Type 0} (v : View R J I) (now : ℕ) where
       by None e = not-none x rest (h.within.made ∙ ap (λ (o : Option (Question J)). acts_made (asking_if o)) e)
       by (Some y) e =
           let parts : x ∷ rest ≡ made.Act (question.asking y) ∷ [] = h.within.made ∙ ap (λ (o : Option (Question J)). acts_made (asking_if o)) e ∙ asked-one y in
-          inl (question.asking y, first-is x _ rest [] parts, λ c' u' took.
-          subst (λ (o : Bool). Takes v now (not o) rest did c' u' m) (sym (asking-calm y).0) (others-are x _ rest [] parts, asked q y st (x ∷ rest) did c c' u u' m h e took))
+          inl (
+            question.asking y,
+            first-is x _ rest [] parts,
+            λ c' u' took.
+                subst (λ (o : Bool). Takes v now (not o) rest did c' u' m) (sym (asking-calm y).0) (others-are x _ rest [] parts, asked q y st (x ∷ rest) did c c' u u' m h e took),
+          )
 
   -- a deed that is no word: its act is the next part, or it is none
   act-part : (d : Deed) (x : RunAct J) (rest : List (RunAct J)) (ds : List Deed) (a : Asks J) (st : Stage) (did : Performed J (Both I)) (c : Connection R) (u : Turn J) (m : Move J (Both I)) → IsAct d
@@ -358,16 +362,24 @@ module _ {R J I : Type 0} (v : View R J I) (now : ℕ) where
       by (Some y) e =
           let is-it : x ∷ rest ≡ made.Act y ∷ left = parts ∙ ap (λ o. acts_made (option_to_list o) ++ left) e in
           let calm = f.calm y e in
-          inl (y, first-is x _ rest left is-it, λ c' u' took.
-          subst (λ (o : Bool). Takes v now (not o) rest did c' u' m) (sym calm.goes_on)
-          (st, ds, a, deed-done d ds a st (x ∷ rest) rest did c c' u u' m is h
-          (subst (λ (o : Option (Act J)). DidAct o c c' u u') (sym e) (record {
-            sockets = took.sockets;
-            kept = took.kept ∙ ap (λ (k : Option ℕ). record c { sockets = c'.sockets; keeping = k }) (took.keeping ∙ calm.keeps c.keeping);
-            offered = took.offered;
-            acts = took.acts;
-          }))
-          (ap (λ z. z ∷ rest) (first-is x _ rest left is-it) ∙ ap (λ o. acts_made (option_to_list o) ++ rest) (sym e))))
+          inl (
+            y,
+            first-is x _ rest left is-it,
+            λ c' u' took.
+                subst (λ (o : Bool). Takes v now (not o) rest did c' u' m) (sym calm.goes_on) (
+                  st,
+                  ds,
+                  a,
+                  deed-done d ds a st (x ∷ rest) rest did c c' u u' m is h
+                      (subst (λ (o : Option (Act J)). DidAct o c c' u u') (sym e) (record {
+                        sockets = took.sockets;
+                        kept = took.kept ∙ ap (λ (k : Option ℕ). record c { sockets = c'.sockets; keeping = k }) (took.keeping ∙ calm.keeps c.keeping);
+                        offered = took.offered;
+                        acts = took.acts;
+                      }))
+                      (ap (λ z. z ∷ rest) (first-is x _ rest left is-it) ∙ ap (λ o. acts_made (option_to_list o) ++ rest) (sym e)),
+                ),
+          )
 
   next-part : (x : RunAct J) (rest : List (RunAct J)) (ds : List Deed) (a : Asks J) (st : Stage) (did : Performed J (Both I)) (c : Connection R) (u : Turn J) (m : Move J (Both I))
       → TowardBy v now st ds a (x ∷ rest) did c u m → NextIs x rest did c u m

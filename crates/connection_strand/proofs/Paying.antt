@@ -1,6 +1,6 @@
 -- What pays for words and turns of a run, and for requests that are held.
 use Rattle.std.specs.Prelude.{filter, ◌^◌}
-use Rattle.std.proofs.Common.{◌≡◌, ℕ, ◌≤◌, ◌<◌, ◌+◌, ◌-◌, ◌*◌, ◌==◌, Bool, true, false, not, List, [], ◌∷◌, ◌++◌, length, take, drop, Option, Some, None, if◌then◌else◌, refl, sym, ap, ◌∙◌, subst, arith, length-append}
+use Rattle.std.proofs.Common.{◌≡◌, ℕ, ◌≤◌, ◌<◌, ◌+◌, ◌*◌, ◌==◌, Bool, true, false, not, List, [], ◌∷◌, length, Option, Some, if◌then◌else◌, refl, ap, arith}
 use Rattle.strand_contract.specs.declared.turns.Act.{Act}
 use Rattle.strand_contract.specs.declared.turns.Act.TheVariants as act
 use Rattle.strand_contract.specs.declared.turns.Place.TheVariants as place
@@ -110,9 +110,6 @@ module _ {R J : Type 0} (left : R → ℕ) (bound : ℕ) where
   pub takes-on : (parts rest more : List (RunAct J)) (c d e : Connection R) (u v w : Turn J) → length rest ≡ length more + 1 → Taking parts c u rest d v → Spends left bound unit d v e w
       → Taking parts c u more e w
   takes-on parts rest more c d e u v w l h k = let f = unit-one (length more) (length rest) (omega arith) in omega arith
-
-  pub takes-all : (parts : List (RunAct J)) (n : ℕ) (c d : Connection R) (u v : Turn J) → Taking parts c u [] d v → Spends left bound (unit * (length parts + n)) c u d v
-  takes-all parts n c d u v h = let e = unit-and (length parts) n in omega arith
 
   pub tells-costs : (n : ℕ) (old new : R) (c d c' : Connection R) (u u' : Turn J) → c.run ≡ Some old → d.run ≡ Some new → d.client ≡ c.client → d.sockets ≡ c.sockets
       → left new + n < left old → Spends left bound (unit * n) d u c' u' → Pays left bound unit c u c' u'

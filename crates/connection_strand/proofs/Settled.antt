@@ -1,5 +1,5 @@
 -- Settling: what a run is told, and what follows a reply that is taken.
-use Rattle.std.proofs.Common.{◌≡◌, ◌⊎◌, inl, inr, ℕ, Bool, true, false, not, ◌&&◌, ◌||◌, Option, Some, None, if◌then◌else◌, refl, sym, ap, ◌∙◌, subst}
+use Rattle.std.proofs.Common.{◌≡◌, ◌⊎◌, inl, inr, ℕ, Bool, true, false, not, ◌&&◌, ◌||◌, Option, if◌then◌else◌, refl, sym, ap, ◌∙◌, subst}
 use Rattle.strand_plans.specs.Ledgers.{Ledger}
 use Rattle.strand_plans.specs.Moves.{Move, Done, Look, Performed, perform}
 use Rattle.run_contract.specs.declared.turns.RunSeen.{RunSeen}
@@ -11,7 +11,7 @@ use Rattle.run_contract.specs.Alike.{AreAlike}
 use Rattle.run_contract.specs.Conditions.{IsRun}
 use Rattle.connection_plan.specs.Clients.{Stage, Client, closes_after, is_last}
 use Rattle.connection_plan.specs.Clients as stage
-use Rattle.connection_plan.specs.Services.{Service, Both}
+use Rattle.connection_plan.specs.Services.{Both}
 use Rattle.connection_plan.specs.Turns.{is_there, is_all_taken, is_to_close, finish, tell, lose, next, ask_body, answer_asked, waiting, busy_at, busy, flush, settled_at, settle}
 use Rattle.connection_plan.specs.Conditions.{AgreesWithin}
 use Rattle.connection_plan.proofs.Stays.{Known}

@@ -1,5 +1,5 @@
 -- What is shown, as the moves of its turn.
-use Rattle.std.proofs.Common.{◌≡◌, ℕ, zero, suc, ◌==◌, eqb-true, ◌≤◌, ◌<◌, ◌+◌, Bool, true, false, not, List, [], ◌∷◌, ◌++◌, length, take, drop, min, Some, None, if◌then◌else◌, refl, sym, ap, ◌∙◌, subst, arith, length-append, take-append-drop, append-nil}
+use Rattle.std.proofs.Common.{◌≡◌, ℕ, zero, suc, ◌==◌, eqb-true, ◌≤◌, ◌<◌, ◌+◌, Bool, true, false, not, List, [], ◌∷◌, length, take, drop, min, Some, None, if◌then◌else◌, refl, sym, ap, ◌∙◌, subst, arith, length-append, take-append-drop, append-nil}
 use Rattle.std.specs.Prelude.{◌-◌, ◌%◌}
 use Rattle.std.proofs.Math.Seq.{drop-nil}
 use Rattle.std.proofs.lemmas.List.{length-take, length-drop, drop-drop}
@@ -27,7 +27,7 @@ use Rattle.run_contract.specs.StoredLaws.{own-due, not-below}
 use Rattle.client_line.specs.Feeding.{fed}
 use Rattle.connection_plan.specs.Clients.{Stage}
 use Rattle.connection_plan.specs.Clients as stage
-use Rattle.connection_plan.specs.Services.{Service, Both}
+use Rattle.connection_plan.specs.Services.{Both}
 use Rattle.connection_plan.specs.Timers.{number_of}
 use Rattle.connection_plan.specs.Timers as timer
 use Rattle.connection_plan.specs.Turns.{is_there, change, finish, begin_timer, end_timer, tell, lose, settle}
@@ -511,9 +511,6 @@ module _ {R J I : Type 0} (v : View R J I)
       ∙ ap (λ (o : Bool). take (16_384 - h.ledger.taken place.Client % 16_384) (if o then left_at place.Client h.ledger else [])) h.comes.taking.opened in
       let f : m ≡ length (take n piece) = e ∙ ap (λ (xs : List ℕ). min (length xs) n) whole ∙ min_comm (length piece) n ∙ sym (length-take n piece) in
       subst (λ (i : ℕ). 0 < i) (sym f) h.comes.some
-
-  pub here-open : (x : Seen) (did : Performed J (Both I)) (c : Connection R) (u : Turn J) (h : Shows x did c u) → is_there h.ledger ≡ true → c.client.is_open ≡ true
-  here-open x did c u h there = ap (λ (k : Kept). k.opened) h.client ∙ there
 
   -- ---- the client sends no more
 

@@ -1,5 +1,5 @@
 -- What a run says, and what the connection does then.
-use Rattle.std.proofs.Common.{◌≡◌, ℕ, Bool, true, false, not, ◌&&◌, List, [], ◌∷◌, Option, if◌then◌else◌, refl, sym, ap, ◌∙◌, subst}
+use Rattle.std.proofs.Common.{◌≡◌, ℕ, Bool, true, false, not, ◌&&◌, List, ◌∷◌, Option, if◌then◌else◌, refl, sym, ap, ◌∙◌, subst}
 use Rattle.client_line.specs.Lines.{body_answer}
 use Rattle.strand_plans.specs.Ledgers.{Ledger}
 use Rattle.strand_plans.specs.Moves.{Move, Performed, Look, perform}
@@ -13,7 +13,7 @@ use Rattle.run_contract.specs.Alike.{AreAlike}
 use Rattle.run_contract.specs.Conditions.{IsRun}
 use Rattle.connection_plan.specs.Clients.{Stage, Reply, Client, Unsent}
 use Rattle.connection_plan.specs.Clients as stage
-use Rattle.connection_plan.specs.Services.{Service, Both}
+use Rattle.connection_plan.specs.Services.{Both}
 use Rattle.connection_plan.specs.Turns.{is_there, is_more, change, send, continue_reply, let_send, wait_more, await_body, says}
 use Rattle.connection_plan.specs.Turns as plans
 use Rattle.connection_plan.proofs.Lifted.{same-run-refl}

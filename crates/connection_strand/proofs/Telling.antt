@@ -10,18 +10,18 @@ use Rattle.run_contract.specs.declared.turns.Said.TheVariants as said
 use Rattle.run_contract.specs.declared.turns.Asking.{Asking}
 use Rattle.run_contract.specs.Deeds as runs
 use Rattle.run_contract.specs.Deeds.{Deed, Ready, Unready, Arm, Cancel, HangUp, Send, Log, Say, within, taken}
-use Rattle.run_contract.specs.Runs.{Waits, waits_told, waits_did, waits_after}
+use Rattle.run_contract.specs.Runs.{Waits, waits_told, waits_did}
 use Rattle.run_contract.specs.Calls as calls
-use Rattle.run_contract.specs.Conditions.{IsRun, IsLeft, Leaves, entered_as}
+use Rattle.run_contract.specs.Conditions.{IsRun, Leaves, entered_as}
 use Rattle.connection_plan.specs.Clients as stage
-use Rattle.connection_plan.specs.Services.{Service, Both}
+use Rattle.connection_plan.specs.Services.{Both}
 use Rattle.connection_plan.specs.Turns.{is_there, run_turn}
 use Rattle.connection_strand.specs.Views.{View, service}
 use Rattle.connection_strand.specs.declared.state.Connection.{Connection}
 use Rattle.connection_strand.specs.declared.state.Turn.{Turn}
 use Rattle.connection_strand.specs.Kept.{kept, waits_of}
 use Rattle.connection_strand.specs.Standing.{Serves, before, places}
-use Rattle.connection_strand.specs.Turns.{Told, Answered, Took, with_asks}
+use Rattle.connection_strand.specs.Turns.{Told, Answered, Took}
 
 -- all but the run, and what it waits for, is as it was
 pub record IsSameClient {R : Type 0} (c c' : Connection R) : Type 0 where

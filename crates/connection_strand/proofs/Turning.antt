@@ -21,8 +21,6 @@ use Rattle.strand_plans.proofs.Once.{deadlines}
 use Rattle.strand_plans.proofs.PlanLaws.{lived, piece-is}
 use Rattle.strand_plans.proofs.Tidy.{IsTidyLedger}
 use Rattle.run_contract.specs.Conditions.{IsRun}
-use Rattle.connection_plan.specs.Clients.{Stage}
-use Rattle.connection_plan.specs.Clients as stage
 use Rattle.connection_plan.specs.Services.{Service, Both}
 use Rattle.connection_plan.specs.Turns.{is_there}
 use Rattle.connection_plan.specs.Conditions.{MayAsk}

@@ -18,7 +18,8 @@ use Rattle.connection_strand.specs.Views.{View, service}
 use Rattle.connection_strand.specs.Following.{Follows}
 
 module _ {R J I : Type 0} (v : View R J I) (apart : (x : R) (b c : Ledger J) (r : I) → AreAlike b c → v.meaning.stands x b r → v.meaning.stands x c r) where
-  has-still : (st : Stage) (c : Connection R) (b b' : Ledger J) (r : I) → AreAlike b b' → HasRun v st c.run (waits_of c.waits) b r → HasRun v st c.run (waits_of c.waits) b' r
+  has-still : (st : Stage) (c : Connection R) (b b' : Ledger J) (r : I) → AreAlike b b'
+      → HasRun v st c.run (waits_of c.waits) b r → HasRun v st c.run (waits_of c.waits) b' r
   has-still stage.Busy c b b' r same h = (h.0, h.1, apart h.0 b b' r same h.2, h.3)
   has-still stage.Idle c b b' r same h = tt
   has-still stage.Head c b b' r same h = tt
@@ -82,27 +83,27 @@ module _ {R J I : Type 0} (v : View R J I) (apart : (x : R) (b c : Ledger J) (r 
   pub still-follows : (c : Connection R) (a : LocalAction J) (es : List (LocalAction J))
       → is_still a ≡ true → Follows v c es → Follows v c (a ∷ es)
   still-follows c (Told w) es h x = record {
-    stays = λ on. stays-by c (Told w) (state_of (connection_plan (service v)) es).ledger (state_of (connection_plan (service v)) es).inner h (x.stays on);
+    stays = λ on. (let st = state_of (connection_plan (service v)) es in stays-by c (Told w) st.ledger st.inner h (x.stays on));
     taking = x.taking;
   }
   still-follows c (Did (Close q)) es h x = record {
-    stays = λ on. stays-by c (Did (Close q)) (state_of (connection_plan (service v)) es).ledger (state_of (connection_plan (service v)) es).inner h (x.stays on);
+    stays = λ on. (let st = state_of (connection_plan (service v)) es in stays-by c (Did (Close q)) st.ledger st.inner h (x.stays on));
     taking = x.taking;
   }
   still-follows c (Did (Log line done)) es h x = record {
-    stays = λ on. stays-by c (Did (Log line done)) (state_of (connection_plan (service v)) es).ledger (state_of (connection_plan (service v)) es).inner h (x.stays on);
+    stays = λ on. (let st = state_of (connection_plan (service v)) es in stays-by c (Did (Log line done)) st.ledger st.inner h (x.stays on));
     taking = x.taking;
   }
   still-follows c (Did (Offer q)) es h x = record {
-    stays = λ on. stays-by c (Did (Offer q)) (state_of (connection_plan (service v)) es).ledger (state_of (connection_plan (service v)) es).inner h (x.stays on);
+    stays = λ on. (let st = state_of (connection_plan (service v)) es in stays-by c (Did (Offer q)) st.ledger st.inner h (x.stays on));
     taking = x.taking;
   }
   still-follows c (Did Gone) es h x = record {
-    stays = λ on. stays-by c (Did Gone) (state_of (connection_plan (service v)) es).ledger (state_of (connection_plan (service v)) es).inner h (x.stays on);
+    stays = λ on. (let st = state_of (connection_plan (service v)) es in stays-by c (Did Gone) st.ledger st.inner h (x.stays on));
     taking = x.taking;
   }
   still-follows c (Did Dropped) es h x = record {
-    stays = λ on. stays-by c (Did Dropped) (state_of (connection_plan (service v)) es).ledger (state_of (connection_plan (service v)) es).inner h (x.stays on);
+    stays = λ on. (let st = state_of (connection_plan (service v)) es in stays-by c (Did Dropped) st.ledger st.inner h (x.stays on));
     taking = x.taking;
   }
   still-follows c a es h x = clash false h refl

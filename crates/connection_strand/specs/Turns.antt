@@ -28,7 +28,7 @@ use Rattle.connection_strand.specs.declared.state.Connection.{Connection}
 use Rattle.connection_strand.specs.declared.state.Turn.{Turn}
 use Rattle.connection_strand.specs.Acts.{sockets_with, count_with}
 use Rattle.connection_strand.specs.Kept.{waits_of}
-use Rattle.connection_strand.specs.Standing.{Moment, plain, taking, Serves, Toward, Came, Went, before}
+use Rattle.connection_strand.specs.Standing.{taking, Serves, Toward, Came, Went, before}
 use Rattle.connection_strand.specs.Views.{View, service}
 
 -- a refusal leads to the end of what is read, or to a fault in a body that is dropped
@@ -106,9 +106,17 @@ module _ {R J I : Type 0} (v : View R J I) (now : ℕ) where
   abbrev pub TakesTurn : Bool → RunTurn J → Connection R → Turn J → Connection R → Turn J → Type 0
   TakesTurn on next c u c' u' = (did : Performed J (Both I)) (m : Move J (Both I)) → Took next did c u m → Went v on did c' u' m
 
+  -- it tells the run this, or gives it this answer, and takes its turn
+  abbrev pub Tells : RunSeen → Bool → Connection R → Turn J → Connection R → Turn J → Type 0
+  Tells x on c u c' u' = (did : Performed J (Both I)) (m : Move J (Both I)) → Told x did c u m → Went v on did c' u' m
+
+  abbrev pub Gives : Answer → Bool → Connection R → Turn J → Connection R → Turn J → Type 0
+  Gives given on c u c' u' = (did : Performed J (Both I)) (m : Move J (Both I)) → Answered given did c u m → Went v on did c' u' m
+
   -- it takes this part of one
   abbrev pub TakesPart : Bool → RunAct J → Connection R → Turn J → Connection R → Turn J → Type 0
-  TakesPart on x c u c' u' = (rest : List (RunAct J)) (did : Performed J (Both I)) (m : Move J (Both I)) → Takes true (x ∷ rest) did c u m → Takes on rest did c' u' m
+  TakesPart on x c u c' u' = (rest : List (RunAct J)) (did : Performed J (Both I)) (m : Move J (Both I))
+      → Takes true (x ∷ rest) did c u m → Takes on rest did c' u' m
 
   -- it hears this word
   abbrev pub HearsWord : Said → Connection R → Turn J → Connection R → Turn J → Type 0

@@ -214,8 +214,10 @@ impl<R: ServiceContract> Connection<R> {
         now: Ms,
         code: u16,
     ) -> Result<(), AllocError>
-        ensures moves { let view = view_of (R.meaning site.now) (R.serving site.now) in IfOk result (λ done. IsRefusedAt self.old.client.line.came.at → Hears view false
-            (λ rest. Look (λ b s. end_timer (service view) now.0 timer.Header (refuse (service view) now.0 s.client.came.at code))) self.old turn.old self.new turn.new) }
+        ensures moves { let view = view_of (R.meaning site.now) (R.serving site.now) in IfOk result (λ done.
+            IsRefusedAt self.old.client.line.came.at → Hears view false
+            (λ rest. Look (λ b s. end_timer (service view) now.0 timer.Header (refuse (service view) now.0 s.client.came.at code)))
+            self.old turn.old self.new turn.new) }
         ensures costs { is_last (kept self.old.client).reply ≡ false → IfOk result (λ done. Costs R.left R.bound 0 self.old turn.old self.new turn.new) }
     {
         let held = self.client.line.held();
@@ -295,7 +297,8 @@ impl<R: ServiceContract> Connection<R> {
         anew: bool,
         out: LineOut,
     ) -> Result<bool, AllocError>
-        ensures moves { let view = view_of (R.meaning site.now) (R.serving site.now) in IfOk result (λ on. IsAnswered out self.old.client.line.came.at → Hears view on
+        ensures moves { let view = view_of (R.meaning site.now) (R.serving site.now) in IfOk result (λ on.
+            IsAnswered out self.old.client.line.came.at → Hears view on
             (λ rest. Look (λ b s. heard_by (service view) now.0 anew rest s.client.came s.client.ended out))
             self.old turn.old self.new turn.new) }
         ensures costs { is_last (kept self.old.client).reply ≡ false →

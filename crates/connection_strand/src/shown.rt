@@ -43,7 +43,8 @@ impl<R: ServiceContract> Connection<R> {
         requires answered { IsAnswered out self.old.client.line.came.at }
         requires within { let view = view_of (R.meaning site.now) (R.serving site.now) in IsFreeAt view self.old turn.old }
         ensures { let view = view_of (R.meaning site.now) (R.serving site.now) in IfOk result (λ done. Hears view false
-            (λ rest. Look (λ b s. heard_by (service view) now.0 anew (settle (service view) now.0) s.client.came s.client.ended out)) self.old turn.old self.new turn.new) }
+            (λ rest. Look (λ b s. heard_by (service view) now.0 anew (settle (service view) now.0) s.client.came s.client.ended out))
+            self.old turn.old self.new turn.new) }
     {
         let goes_on = self.heard(turn, alloc, site, now, anew, out)?;
         if !goes_on {

@@ -43,19 +43,12 @@ impl<R: ServiceContract> Connection<R> {
     ghost use Rattle.run_contract.specs.Calls as runs;
     ghost use Rattle.run_contract.specs.Calls.{size_of};
     ghost use Rattle.run_contract.specs.declared.turns.RunTurn.{RunTurn};
-    ghost use Rattle.strand_plans.specs.Moves.{Performed, Move};
-    ghost use Rattle.connection_plan.specs.Services.{Both};
     ghost use Rattle.connection_strand.specs.Views.{view_of, service};
     ghost use Rattle.connection_strand.specs.Costs.{unit, Spends, Pays};
-    ghost use Rattle.connection_strand.specs.Standing.{Went};
-    ghost use Rattle.connection_strand.specs.Turns.{Told, Answered, TakesTurn, TakesPart};
+    ghost use Rattle.connection_strand.specs.Turns.{TakesTurn, TakesPart, Tells, Gives};
 
     /// Makes an act of the run its own. It reports whether the connection's turn goes on: a question ends it.
-    fn take_act(
-        &mut self,
-        turn: &mut Turn<R::Job>,
-        act: Act<R::Job>,
-    ) -> Result<bool, AllocError>
+    fn take_act(&mut self, turn: &mut Turn<R::Job>, act: Act<R::Job>) -> Result<bool, AllocError>
         ensures goes_on { IfOk result (λ on. on ≡ not (is_question act)) }
         ensures acts { IfOk result (λ on. turn.new.acts.items ≡ turn.old.acts.items ++ act ∷ []) }
         ensures offered { turn.new.is_offered ≡ turn.old.is_offered }
@@ -139,7 +132,8 @@ impl<R: ServiceContract> Connection<R> {
         now: Ms,
         begun: Result<(R, RunTurn<R::Job>), AllocError>,
     ) -> Result<bool, AllocError>
-        ensures { let view = view_of (R.meaning site.now) (R.serving site.now) in IfOk result (λ on. (run : R) × (first : RunTurn R.Job) × (begun ≡ Ok (run, first))
+        ensures { let view = view_of (R.meaning site.now) (R.serving site.now) in IfOk result (λ on.
+            (run : R) × (first : RunTurn R.Job) × (begun ≡ Ok (run, first))
             × TakesTurn view now.0 on first (record self.old { run = Some run }) turn.old self.new turn.new
             × Spends R.left R.bound (unit * size_of first) (record self.old { run = Some run }) turn.old self.new turn.new) }
     {
@@ -163,9 +157,8 @@ impl<R: ServiceContract> Connection<R> {
     ) -> Result<bool, AllocError>
         requires { (run : R) → self.old.run ≡ Some run
             → runs.MayBeTold (R.meaning site.now) now.0 seen run }
-        ensures moves { let view = view_of (R.meaning site.now) (R.serving site.now) in IfOk result (λ on. (did : Performed R.Job (Both R.Inner)) (m : Move R.Job (Both R.Inner))
-            → Told view now.0 seen did self.old turn.old m
-            → Went view on did self.new turn.new m) }
+        ensures moves { let view = view_of (R.meaning site.now) (R.serving site.now) in IfOk result (λ on.
+            Tells view now.0 seen on self.old turn.old self.new turn.new) }
         ensures costs { runs.is_own_turn seen ≡ true → (self.old.run ≡ None → ⊥) →
             IfOk result (λ on. Pays R.left R.bound unit self.old turn.old self.new turn.new) }
     {
@@ -193,9 +186,8 @@ impl<R: ServiceContract> Connection<R> {
     ) -> Result<bool, AllocError>
         requires { (run : R) → self.old.run ≡ Some run
             → runs.MayBeAnswered (R.meaning site.now) answer run }
-        ensures moves { let view = view_of (R.meaning site.now) (R.serving site.now) in IfOk result (λ on. (did : Performed R.Job (Both R.Inner)) (m : Move R.Job (Both R.Inner))
-            → Answered view now.0 answer did self.old turn.old m
-            → Went view on did self.new turn.new m) }
+        ensures moves { let view = view_of (R.meaning site.now) (R.serving site.now) in IfOk result (λ on.
+            Gives view now.0 answer on self.old turn.old self.new turn.new) }
         ensures costs { (self.old.run ≡ None → ⊥) → IfOk result (λ on. Pays R.left R.bound unit self.old turn.old self.new turn.new) }
     {
         match &mut self.run {

@@ -1,8 +1,7 @@
-use Rattle.std.proofs.Common.{Some, sym, ap, ◌∙◌, subst}
+use Rattle.std.proofs.Common.{Some, ap, ◌∙◌}
 use Rattle.run_contract.specs.declared.turns.Asking.{Asking}
 use Rattle.run_contract.specs.declared.turns.Asking.TheVariants as asking
 use Rattle.run_contract.specs.Calls.{is_own_turn}
-use Rattle.connection_plan.specs.Clients as stage
 use Rattle.connection_strand.specs.Views.{view_of}
 use Rattle.connection_strand.specs.Kept.{kept}
 use Rattle.connection_strand.proofs.Asking.{may-be-taken, taken-own}

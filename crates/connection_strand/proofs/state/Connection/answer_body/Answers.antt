@@ -1,6 +1,5 @@
 use Rattle.std.proofs.Common.{Some, None, refl, sym, ap, ◌∙◌}
 use Rattle.std.specs.Prelude.{is_some}
-use Rattle.connection_plan.specs.Clients as stage
 use Rattle.connection_strand.specs.Views.{view_of}
 use Rattle.connection_strand.specs.Kept.{kept}
 use Rattle.connection_strand.specs.Costs.{unit}

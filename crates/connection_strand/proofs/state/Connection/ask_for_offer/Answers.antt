@@ -2,7 +2,7 @@ use Rattle.std.proofs.Common.{refl, sym, ap, ◌∙◌, not, ◌&&◌}
 use Rattle.connection_strand.specs.Kept.{kept, wants_offer}
 use Rattle.connection_strand.proofs.Offering.{offers, offers-not, and-none}
 use Rattle.connection_strand.proofs.state.Connection.ask_for_offer.Goals.{else-wants_offer-via-then-wants_offer+else-not-turn, else-wants_offer-via-else-wants_offer}
-use Rattle.connection_strand.specs.Views.{view_of, service}
+use Rattle.connection_strand.specs.Views.{view_of}
 use Rattle.connection_strand.proofs.state.Connection.ask_for_offer.Goals as goal
 
 pub returns-in_ok-put-clause-moves : goal.returns-in_ok-put-clause-moves

@@ -6,7 +6,7 @@ use Rattle.connection_plan.specs.Serving.{times}
 use Rattle.connection_strand.proofs.Ends.{ok-map}
 use Rattle.connection_strand.proofs.Moving.{begins}
 use Rattle.connection_strand.proofs.Costing.{begins-costs}
-use Rattle.connection_strand.specs.Views.{view_of, service}
+use Rattle.connection_strand.specs.Views.{view_of}
 use Rattle.connection_strand.proofs.state.Connection.begin_timer.Goals as goal
 
 pub returns-clause-moves : goal.returns-clause-moves

@@ -1,5 +1,4 @@
 use Rattle.std.proofs.Common.{Some, None}
-use Rattle.connection_plan.specs.Clients as stage
 use Rattle.connection_strand.specs.Views.{view_of}
 use Rattle.connection_strand.proofs.Ends.{ok-map}
 use Rattle.connection_strand.proofs.Settled.{busy-as}

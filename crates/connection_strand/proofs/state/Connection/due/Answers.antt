@@ -1,7 +1,7 @@
 use Rattle.std.proofs.Common.{ℕ, false, refl, ap, ◌∙◌, subst}
 use Rattle.strand_contract.specs.declared.turns.Seen.TheVariants as seens
 use Rattle.strand_plans.specs.Moves.{Done}
-use Rattle.connection_strand.specs.Views.{view_of, service}
+use Rattle.connection_strand.specs.Views.{view_of}
 use Rattle.connection_strand.specs.Kept.{Kept}
 use Rattle.connection_strand.specs.Shown.{Shown}
 use Rattle.connection_strand.proofs.Ends.{ok-map, went-came}

@@ -4,7 +4,7 @@ use Rattle.connection_strand.specs.Kept.{timer_of}
 use Rattle.connection_strand.proofs.Ends.{ok-map}
 use Rattle.connection_strand.proofs.Moving.{ends-armed, ends-unarmed}
 use Rattle.connection_strand.proofs.Costing.{ends-costs, spends-nothing}
-use Rattle.connection_strand.specs.Views.{view_of, service}
+use Rattle.connection_strand.specs.Views.{view_of}
 use Rattle.connection_strand.proofs.state.Connection.end_timer.Goals as goal
 
 pub returns-clause-moves : goal.returns-clause-moves

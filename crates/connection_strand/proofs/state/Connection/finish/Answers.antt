@@ -3,7 +3,7 @@ use Rattle.connection_strand.specs.declared.state.Turn.{Turn}
 use Rattle.connection_strand.proofs.Ends.{ok-map}
 use Rattle.connection_strand.proofs.Losing.{finishes, client_act}
 use Rattle.connection_strand.proofs.state.Connection.finish.Goals.{then-self+in_ok-put, else-self}
-use Rattle.connection_strand.specs.Views.{view_of, service}
+use Rattle.connection_strand.specs.Views.{view_of}
 use Rattle.std.proofs.Common.{◌*◌, ◌+◌, length, arith, not}
 use Rattle.connection_strand.specs.Kept.{kept}
 use Rattle.connection_strand.specs.Costs.{unit, units, whole, weight_if}

@@ -1,6 +1,6 @@
 use Rattle.std.proofs.Common.{◌≡◌, true, false, not, ◌||◌, sym, ap, ◌∙◌}
 use Rattle.connection_plan.specs.Clients.{closes_after}
-use Rattle.connection_strand.specs.Views.{view_of, service}
+use Rattle.connection_strand.specs.Views.{view_of}
 use Rattle.connection_strand.specs.Kept.{kept}
 use Rattle.connection_strand.proofs.Ends.{ok-map, done-came}
 use Rattle.connection_strand.proofs.Settled.{flush-sends, flush-ends, flush-goes-on}

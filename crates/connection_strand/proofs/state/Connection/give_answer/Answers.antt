@@ -18,7 +18,7 @@ settle_all-requires g c =
     let v = view_of (g.R.RunContract.meaning site) (g.R.ServiceContract.serving site) in
     let now = c.args.now.0 in
     let t = went-toward v c.in_ok-goes_on.goes_on c.requires.0 c.answered.new.self c.answered.new.turn (settle (service v) now) c.if-not-goes_on.false
-        (c.in_ok-goes_on.ensures.moves c.requires.0 (settle (service v) now) c.requires.1) in
+    (c.in_ok-goes_on.ensures.moves c.requires.0 (settle (service v) now) c.requires.1) in
     (t.0, (t.1.ledger, t.1.inner, t.1.within))
 
 pub returns-then-not-goes_on-clause-moves : goal.returns-then-not-goes_on-clause-moves
@@ -35,7 +35,7 @@ returns-clause-moves g c =
     let now = c.args.now.0 in
     ok-map c.settle_all.result _ _ (λ done ends. λ did given.
     let t = went-toward v c.in_ok-goes_on.goes_on did c.answered.new.self c.answered.new.turn (settle (service v) now) c.if-not-goes_on.false
-        (c.in_ok-goes_on.ensures.moves did (settle (service v) now) given) in
+    (c.in_ok-goes_on.ensures.moves did (settle (service v) now) given) in
     ends t.0 did t.1) c.settle_all.ensures.moves
 
 pub returns-then-not-goes_on-clause-falls : goal.returns-then-not-goes_on-clause-falls

@@ -1,7 +1,7 @@
 use Rattle.std.proofs.Common.{refl}
 use Rattle.connection_strand.proofs.Ends.{ok-map}
 use Rattle.connection_strand.proofs.Losing.{hangs-up, hangs-not}
-use Rattle.connection_strand.specs.Views.{view_of, service}
+use Rattle.connection_strand.specs.Views.{view_of}
 use Rattle.connection_strand.proofs.Costing.{hangs-costs, one-longer, spends-nothing}
 use Rattle.connection_strand.proofs.Falling.{hung-pays}
 use Rattle.connection_strand.specs.declared.state.Turn.{Turn}

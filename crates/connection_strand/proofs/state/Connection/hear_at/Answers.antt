@@ -1,4 +1,4 @@
-use Rattle.std.proofs.Common.{ap, false, inl, inr}
+use Rattle.std.proofs.Common.{ap, inl, inr}
 use Rattle.strand_plans.specs.Moves.{Look}
 use Rattle.connection_plan.specs.Clients as stage
 use Rattle.connection_plan.specs.Turns.{settle}

@@ -17,9 +17,11 @@ go_on-requires g c =
     let now = c.args.now.0 in
     let old = c.args.self.now in
     let new = record old { client = record old.client { has_ended = true } } in
-    let t = from-here v (met.meets site) (met.apart site) c.requires.within.0 old c.args.turn.now c.requires.within.1 (Look (λ b s. ends_at (service v) now s.client.stage s)) in
-    (t.0, tells-end v (met.meets site) (met.apart site) now t.0 new c.args.turn.now c.if-self.true (c.requires.unasked (ap stage_of c.in-Busy.is))
-    (ends-busy v (met.meets site) (met.apart site) now c.requires.within.0 t.0 old new c.args.turn.now true c.in-Busy.is c.if-self.true (record { run = refl; waits = refl; sockets = refl; count = refl; keeping = refl; taking = refl }) refl t.1))
+    let t = from-here v (met.meets site) (met.apart site) c.requires.within.0 old c.args.turn.now c.requires.within.1 (Look (λ b s. ends_at (service v) now s.client.stage s)) in (
+      t.0,
+      tells-end v (met.meets site) (met.apart site) now t.0 new c.args.turn.now c.if-self.true (c.requires.unasked (ap stage_of c.in-Busy.is))
+          (ends-busy v (met.meets site) (met.apart site) now c.requires.within.0 t.0 old new c.args.turn.now true c.in-Busy.is c.if-self.true (record { run = refl; waits = refl; sockets = refl; count = refl; keeping = refl; taking = refl }) refl t.1),
+    )
 
 pub returns-then-self : goal.returns-then-self
 returns-then-self g c =

@@ -1,6 +1,6 @@
 use Rattle.std.proofs.Common.{true, refl}
 use Rattle.client_line.specs.declared.requests.LineOut.TheVariants as out
-use Rattle.connection_strand.specs.Views.{view_of, service}
+use Rattle.connection_strand.specs.Views.{view_of}
 use Rattle.connection_strand.specs.Standing.{plain}
 use Rattle.connection_strand.proofs.Ends.{done-came}
 use Rattle.connection_strand.proofs.Costing.{costs-more, ends-within, settles-nothing}

@@ -1,7 +1,7 @@
 use Rattle.std.proofs.Common.{Bool, false, sym, subst}
 use Rattle.client_line.specs.declared.requests.LineOut.{LineOut}
 use Rattle.client_line.specs.declared.requests.LineOut.TheVariants as out
-use Rattle.connection_strand.specs.Views.{view_of, service}
+use Rattle.connection_strand.specs.Views.{view_of}
 use Rattle.connection_strand.specs.Costs as costs
 use Rattle.connection_strand.specs.Standing.{plain, Went}
 use Rattle.connection_strand.proofs.Ends.{ok-map, of-ok}

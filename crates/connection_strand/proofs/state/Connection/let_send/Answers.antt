@@ -1,7 +1,7 @@
 use Rattle.std.proofs.Common.{refl, ap, inl, inr, false}
 use Rattle.connection_strand.specs.Kept.{reply_of}
 use Rattle.connection_strand.proofs.Speaking.{lets, lets-reply, lets-begun, lets-waited, begun-is, whole-is}
-use Rattle.connection_strand.specs.Views.{view_of, service}
+use Rattle.connection_strand.specs.Views.{view_of}
 use Rattle.connection_strand.proofs.state.Connection.let_send.Goals as goal
 
 pub returns-in_ok-send-in-Unsent-clause-moves : goal.returns-in_ok-send-in-Unsent-clause-moves

@@ -2,7 +2,7 @@ use Rattle.std.proofs.Common.{ap}
 use Rattle.strand_contract.proofs.Results.{if-ok}
 use Rattle.connection_strand.specs.Kept.{stage_of}
 use Rattle.connection_strand.proofs.Losing.{busy-at, loses-free, free-stage}
-use Rattle.connection_strand.specs.Views.{view_of, service}
+use Rattle.connection_strand.specs.Views.{view_of}
 use Rattle.connection_strand.proofs.state.Connection.lose.Goals as goal
 
 pub lose_busy-requires-clause-within : goal.lose_busy-requires-clause-within

@@ -5,7 +5,7 @@ use Rattle.client_line.specs.Lines.{IsFed, done}
 use Rattle.strand_contract.proofs.Results.{if-ok}
 use Rattle.connection_strand.specs.Kept.{kept}
 use Rattle.connection_strand.proofs.Nexts.{nexts, fed-answered}
-use Rattle.connection_strand.specs.Views.{view_of, service}
+use Rattle.connection_strand.specs.Views.{view_of}
 use Rattle.connection_strand.proofs.Reading.{next-pays}
 use Rattle.connection_strand.proofs.state.Connection.next.Goals as goal
 

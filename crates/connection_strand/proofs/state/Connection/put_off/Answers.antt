@@ -4,7 +4,7 @@ use Rattle.strand_plans.specs.Ledgers.{is_place}
 use Rattle.connection_strand.specs.Kept.{Kept}
 use Rattle.strand_plans.specs.Moves.{Done}
 use Rattle.connection_strand.specs.Standing.{plain}
-use Rattle.connection_strand.specs.Views.{view_of, service}
+use Rattle.connection_strand.specs.Views.{view_of}
 use Rattle.connection_strand.proofs.Ends.{ok-map, done-came}
 use Rattle.connection_strand.proofs.Showing.{shown-later}
 use Rattle.connection_strand.proofs.Falling.{later-falls}

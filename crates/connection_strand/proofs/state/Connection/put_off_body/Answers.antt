@@ -1,4 +1,4 @@
-use Rattle.std.proofs.Common.{refl, sym, ap, ◌∙◌}
+use Rattle.std.proofs.Common.{refl, ap, ◌∙◌}
 use Rattle.std.specs.Prelude.{is_some}
 use Rattle.strand_plans.specs.Moves.{Look}
 use Rattle.run_contract.specs.declared.turns.RunSeen.TheVariants as seen

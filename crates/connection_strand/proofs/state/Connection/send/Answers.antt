@@ -3,7 +3,7 @@ use Rattle.client_line.specs.Records.{Connection as Line}
 use Rattle.connection_strand.specs.Kept.{kept}
 use Rattle.connection_strand.proofs.Ends.{ok-map}
 use Rattle.connection_strand.proofs.Offering.{queues-more, queues-not}
-use Rattle.connection_strand.specs.Views.{view_of, service}
+use Rattle.connection_strand.specs.Views.{view_of}
 use Rattle.connection_strand.proofs.Costing.{queues-costs, spends-none}
 use Rattle.std.proofs.Common.{length, ◌*◌, ◌+◌}
 use Rattle.connection_strand.proofs.state.Connection.send.Goals as goal

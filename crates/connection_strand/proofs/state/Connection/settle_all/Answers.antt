@@ -1,5 +1,5 @@
 use Rattle.std.proofs.Common.{◌<◌, sym, subst}
-use Rattle.connection_strand.specs.Views.{view_of, service}
+use Rattle.connection_strand.specs.Views.{view_of}
 use Rattle.connection_strand.proofs.Costing.{spends-nothing}
 use Rattle.connection_strand.proofs.Loops.{IsSettling, Spent, rounds, begins, goes-on, settled, spends-on, fewer}
 use Rattle.connection_strand.proofs.state.Connection.settle_all.Goals as goal

@@ -1,4 +1,4 @@
-use Rattle.connection_strand.specs.Views.{view_of, service}
+use Rattle.connection_strand.specs.Views.{view_of}
 use Rattle.connection_strand.proofs.Loops.{IsSettling, Spent, rounds}
 use Rattle.connection_strand.proofs.state.Connection.settle_all.Given as goal
 

@@ -1,6 +1,6 @@
 use Rattle.std.proofs.Common.{refl, ap, subst}
 use Rattle.run_contract.specs.declared.turns.SockSeen.{SockSeen}
-use Rattle.connection_strand.specs.Views.{view_of, service}
+use Rattle.connection_strand.specs.Views.{view_of}
 use Rattle.connection_strand.specs.Kept.{Kept}
 use Rattle.connection_strand.specs.Shown.{Shown, sock_seen}
 use Rattle.connection_strand.proofs.Ends.{ok-map}

@@ -1,5 +1,5 @@
 use Rattle.std.proofs.Common.{refl}
-use Rattle.connection_strand.specs.Views.{view_of, service}
+use Rattle.connection_strand.specs.Views.{view_of}
 use Rattle.connection_strand.proofs.Ends.{went-came}
 use Rattle.connection_strand.proofs.Beginning.{begun, follows}
 use Rattle.connection_strand.proofs.state.Connection.start.Goals as goal

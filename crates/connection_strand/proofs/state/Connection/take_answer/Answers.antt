@@ -1,5 +1,4 @@
 use Rattle.std.proofs.Common.{◌≤◌, ◌+◌, None, length, ap, sym, subst}
-use Rattle.connection_strand.specs.Views.{view_of}
 use Rattle.connection_strand.specs.declared.state.Connection.{Connection}
 use Rattle.connection_strand.specs.Turns.{TookIn}
 use Rattle.connection_strand.proofs.Ends.{ok-map}

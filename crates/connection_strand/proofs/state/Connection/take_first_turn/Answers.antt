@@ -2,7 +2,7 @@ use Rattle.std.proofs.Common.{true, Some, refl, sym, subst}
 use Rattle.strand_contract.specs.declared.turns.Start.TheVariants as start
 use Rattle.strand_plans.specs.Moves.{Done}
 use Rattle.connection_plan.specs.Clients as stage
-use Rattle.connection_strand.specs.Views.{view_of, service}
+use Rattle.connection_strand.specs.Views.{view_of}
 use Rattle.connection_strand.specs.declared.client.Stage.TheVariants as code
 use Rattle.connection_strand.specs.Following.{IsNew, is_client}
 use Rattle.connection_strand.specs.Standing.{plain, Went}

@@ -1,11 +1,11 @@
-use Rattle.std.proofs.Common.{◌+◌, Bool, true, refl, sym, ap, subst}
+use Rattle.std.proofs.Common.{Bool, true, sym, subst}
 use Rattle.run_contract.specs.declared.turns.RunAct.{RunAct}
 use Rattle.connection_strand.specs.Views.{view_of}
 use Rattle.connection_strand.specs.Costs.{unit}
 use Rattle.connection_strand.specs.Turns.{Takes, TakesPart}
 use Rattle.connection_strand.proofs.Costing.{unit-some}
 use Rattle.connection_strand.proofs.Ends.{ok-map, ok-both, of-ok}
-use Rattle.connection_strand.proofs.Parts.{TookAct, takes-act, takes-word}
+use Rattle.connection_strand.proofs.Parts.{takes-act, takes-word}
 use Rattle.connection_strand.proofs.Paying.{act-costs, spends-more}
 use Rattle.connection_strand.proofs.state.Connection.take_part.Goals as goal
 

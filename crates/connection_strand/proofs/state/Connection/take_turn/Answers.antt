@@ -1,6 +1,6 @@
 use Rattle.std.specs.Prelude.{option_to_list}
 use Rattle.std.specs.VecDeque.{deque_len}
-use Rattle.std.proofs.Common.{◌≡◌, ◌+◌, ◌∷◌, ◌++◌, List, [], length, refl, ap, ◌∙◌, subst, arith}
+use Rattle.std.proofs.Common.{◌++◌, length, ap, ◌∙◌, arith}
 use Rattle.connection_strand.specs.Views.{view_of}
 use Rattle.connection_strand.proofs.Parts.{takes-next, takes-none, none-of}
 use Rattle.connection_strand.proofs.Paying.{takes-first, takes-on}
@@ -17,7 +17,7 @@ loop-part-preserved g c =
     let rest = c.pop_front.new.self.items in
     let is = c.pop_front.ensures.items ∙ ap (λ o. option_to_list o ++ rest) c.in-Some.is in (
       (λ did m h. takes-next v c.args.now.0 c.loop-part.goes_on c.in_ok-goes_on.goes_on c.in-Some.part parts rest did c.loop-part.self c.take_part.new.self c.loop-part.turn c.take_part.new.turn m is
-      c.in_ok-goes_on.ensures.moves (c.loop-part.invariant.0 did m h)),
+          c.in_ok-goes_on.ensures.moves (c.loop-part.invariant.0 did m h)),
       takes-on g.R.RunContract.left g.R.ServiceContract.bound c.args.next.now.does.items parts rest c.args.self.now c.loop-part.self c.take_part.new.self c.args.turn.now c.loop-part.turn c.take_part.new.turn
           (let e = ap length is in omega arith) c.loop-part.invariant.1 c.in_ok-goes_on.ensures.costs,
     )

@@ -1,6 +1,5 @@
 use Rattle.std.proofs.Common.{length}
 use Rattle.connection_strand.specs.Views.{view_of}
-use Rattle.connection_strand.specs.Turns.{Takes, with_asks}
 use Rattle.connection_strand.proofs.Parts.{Taken}
 use Rattle.connection_strand.proofs.Paying.{Taking}
 use Rattle.connection_strand.proofs.state.Connection.take_turn.Given as goal

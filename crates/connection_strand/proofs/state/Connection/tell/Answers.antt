@@ -1,6 +1,6 @@
 use Rattle.std.proofs.Common.{refl}
 use Rattle.connection_strand.proofs.Telling.{told-takes, no-run}
-use Rattle.connection_strand.specs.Views.{view_of, service}
+use Rattle.connection_strand.specs.Views.{view_of}
 use Rattle.std.proofs.Common.{Some}
 use Rattle.run_contract.specs.Calls.{size_of}
 use Rattle.connection_strand.proofs.Ends.{ok-map, of-ok}

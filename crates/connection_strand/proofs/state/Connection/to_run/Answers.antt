@@ -1,4 +1,4 @@
-use Rattle.connection_strand.specs.Views.{view_of, service}
+use Rattle.connection_strand.specs.Views.{view_of}
 use Rattle.connection_strand.proofs.Ends.{ok-map}
 use Rattle.connection_strand.proofs.Showing.{at-busy, not-going, own-goes, no-run-none, may-tell}
 use Rattle.connection_strand.proofs.state.Connection.to_run.Goals as goal

@@ -1,6 +1,6 @@
 use Rattle.std.proofs.Common.{ℕ, List, length, min, refl, ap, ◌∙◌}
 use Rattle.client_line.specs.Records.{Connection as Line}
-use Rattle.connection_strand.specs.Views.{view_of, service}
+use Rattle.connection_strand.specs.Views.{view_of}
 use Rattle.connection_strand.specs.Kept.{kept}
 use Rattle.connection_strand.proofs.Ends.{ok-map}
 use Rattle.connection_strand.proofs.Showing.{shown-taken, took-are}

@@ -3,7 +3,7 @@ use Rattle.strand_contract.proofs.Results.{if-ok}
 use Rattle.client_line.specs.declared.line.Held.TheVariants as held
 use Rattle.connection_strand.specs.Standing.{plain}
 use Rattle.connection_strand.proofs.Hearing.{waits-so}
-use Rattle.connection_strand.specs.Views.{view_of, service}
+use Rattle.connection_strand.specs.Views.{view_of}
 use Rattle.connection_strand.proofs.state.Connection.wait.Goals as goal
 
 pub returns-in-Body-clause-moves : goal.returns-in-Body-clause-moves

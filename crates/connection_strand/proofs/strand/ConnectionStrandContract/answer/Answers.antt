@@ -10,10 +10,11 @@ take_answer-requires g c =
     let site = c.args.site.now in
     let v = view_of (g.R.RunContract.meaning site) (g.R.ServiceContract.serving site) in
     let met = g.met.R.RunContract in
-    let u : Turn g.row.R-Job.Denot = record { acts = c.new.result; is_offered = c.is_still_offered.result } in
-    (turned (service v) c.requires.1 c.requires.0,
-    may-answer v (met.meets site) c.args.now.0 c.args.answer c.requires.1 c.requires.0 c.args.self.now u c.requires.2 c.requires.3 c.requires.4 c.requires.5
-        c.is_still_offered.ensures c.new.ensures.items)
+    let u : Turn g.row.R-Job.Denot = record { acts = c.new.result; is_offered = c.is_still_offered.result } in (
+      turned (service v) c.requires.1 c.requires.0,
+      may-answer v (met.meets site) c.args.now.0 c.args.answer c.requires.1 c.requires.0 c.args.self.now u c.requires.2 c.requires.3 c.requires.4 c.requires.5
+          c.is_still_offered.ensures c.new.ensures.items,
+    )
 
 pub returns-clause-turn : goal.returns-clause-turn
 returns-clause-turn g c = λ es x follows at e execution.
@@ -32,6 +33,6 @@ returns-clause-left g c =
     let met = g.met.R.RunContract in
     let none = ap length c.new.ensures.items in
     let on = answered-left v (met.meets site) g.R.RunContract.left g.R.ServiceContract.bound c.args.answer c.requires.1 c.args.self.now
-        c.requires.0 c.requires.2 c.requires.4 c.requires.5 in
+    c.requires.0 c.requires.2 c.requires.4 c.requires.5 in
     let falls = c.in_ok-take_answer.ensures.falls in
     omega arith
