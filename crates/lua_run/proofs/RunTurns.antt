@@ -78,6 +78,15 @@ works-took site now (Err e) done w old client over same does asks = tt
 
 -- ---- how it begins
 
+-- what follows for a value from three things that hold of it
+pub ok-three : {A E : Type 0} (result : Result A E) (P Q S T : A → Type 0) → ((a : A) → P a → Q a → S a → T a) → IfOk result P → IfOk result Q → IfOk result S
+    → IfOk result T
+ok-three (Ok a) P Q S T f p q s = f a p q s
+ok-three (Err e) P Q S T f p q s = tt
+
+pub of-ok : {A E : Type 0} (result : Result A E) (a : A) (P : A → Type 0) → result ≡ Ok a → IfOk result P → P a
+of-ok {A} {E} result a P is h = subst (λ (r : Result A E). IfOk r P) is h
+
 abbrev first : Req → Run
 first req = record { work = Request req; client = true }
 

@@ -1,6 +1,6 @@
 //! The contract of a run, met.
 
-ghost use Rattle.std.specs.Prelude.{◌≡◌, true};
+ghost use Rattle.std.specs.Prelude.{◌≡◌, Ok, IfOk};
 
 use crate::answers::has_handler;
 use crate::run::{Work, queueing, silent, working};
@@ -16,15 +16,29 @@ use std::mem::replace;
 use strand_contract::Answer;
 use uri_args::Target;
 
-/// A run that has this to do for its client.
-fn answering<M>(work: Work) -> LuaRun<M>
-    ensures work { result.work ≡ work }
-    ensures client { result.has_client ≡ true }
+/// A run that begins with this to do, and its first turn.
+fn beginning<M>(
+    work: Work,
+    has_client: bool,
+    turn: Result<RunTurn<NoJob>, AllocError>,
+) -> Result<(LuaRun<M>, RunTurn<NoJob>), AllocError>
+    ensures work { IfOk result (λ r. r.0.work ≡ work) }
+    ensures client { IfOk result (λ r. r.0.has_client ≡ has_client) }
+    ensures turn { IfOk result (λ r. turn ≡ Ok r.1) }
 {
-    LuaRun {
-        work,
-        has_client: true,
-        machine: PhantomData,
+    match turn {
+        Ok(turn) => {
+            let run = LuaRun {
+                work,
+                has_client,
+                machine: PhantomData,
+            };
+            Ok((run, turn))
+        }
+        Err(fault) => {
+            drop(work);
+            Err(fault)
+        }
     }
 }
 
@@ -82,11 +96,10 @@ impl<M: Machine> RunContract for LuaRun<M> {
     ) -> Result<(Self, RunTurn<NoJob>), AllocError> {
         let req = Req::begin(alloc, head, target, 0);
         if has_handler(&site.conf, &req) {
-            let turn = queueing(alloc)?;
-            Ok((answering(Work::Request(req)), turn))
+            beginning(Work::Request(req), true, queueing(alloc))
         } else {
-            let turn = working(alloc, site, now, Work::Request(req))?;
-            Ok((answering(Work::Over), turn))
+            let turn = working(alloc, site, now, Work::Request(req));
+            beginning(Work::Over, true, turn)
         }
     }
 
@@ -97,12 +110,7 @@ impl<M: Machine> RunContract for LuaRun<M> {
         _premature: bool,
         _job: NoJob,
     ) -> Result<(Self, RunTurn<NoJob>), AllocError> {
-        let run = LuaRun {
-            work: Work::Job,
-            has_client: false,
-            machine: PhantomData,
-        };
-        Ok((run, queueing(alloc)?))
+        beginning(Work::Job, false, queueing(alloc))
     }
 
     fn given(
