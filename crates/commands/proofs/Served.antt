@@ -1,5 +1,6 @@
 -- How serving a schedule ends.
-use Rattle.std.proofs.Common.{◌≡◌, ℕ, ◌<◌, List, take, drop, refl, sym, subst, ◌∙◌, arith}
+use Rattle.std.proofs.Common.{◌≡◌, ◌⊎◌, inl, inr, ℕ, ◌<◌, false, List, take, drop, refl, sym, subst, ◌∙◌, arith}
+use Rattle.std.specs.List.{list_any}
 use Rattle.std.proofs.lemmas.List.{take-append-drop}
 use Rattle.resty_base.specs.Counting.{Rose}
 use Rattle.resty_world.specs.declared.entry.Entry.{Entry}
@@ -9,17 +10,17 @@ use Rattle.schedule_text.specs.Fitting.{IsSchedule}
 use Rattle.schedule.specs.declared.replay.Replay.{Replay}
 use Rattle.schedule.specs.Counts.{counted}
 use Rattle.schedule.specs.ReplayBook.{book_of, Stands, IsFresh, IsLater}
-use Rattle.schedule.specs.Steps.{faults_in}
+use Rattle.schedule.specs.Steps.{is_fail_next, faults_in}
 use Rattle.schedule.specs.Told.{IsTold, StopEndsSchedules}
 use Rattle.executions.specs.Histories.{offered_lengths}
 use Rattle.strand_contract.specs.Behaviors.{Behavior}
 use Rattle.engine_base.specs.Right.{IsRight}
 use Rattle.engine.specs.declared.server.Ended.{Ended}
 use Rattle.engine.specs.declared.server.Ended.TheVariants as ended
-use Rattle.engine.specs.Endings.{EndsBy, HasFailedLog, IsFaulted}
-use Rattle.commands.specs.Run.{IsRun, RunsTo, EndsRun, IsUnknownAt, TellsFault}
+use Rattle.engine.specs.Endings.{EndsBy, HasAtMost, NothingFailed, WorldFailed, LogFailed}
+use Rattle.commands.specs.Run.{IsRun, RunsTo, EndsRun, IsUnknownAt, NothingFailedIn, TellsFault}
 use Rattle.commands.proofs.Ranged.{history-ranged}
-use Rattle.commands.proofs.Story.{AreRanged, schedule-ranged, first-ranged, no-failed-log, faults-told, stopped-newest}
+use Rattle.commands.proofs.Story.{AreRanged, schedule-ranged, first-ranged, no-fail-next, tells-fault, stopped-newest}
 
 -- the world still goes by these lines, and tells those that were passed
 pub record Tells (lines : List SchedLine) (world : Replay) : Type 0 where
@@ -42,22 +43,32 @@ module _ {J : Type 0} (b : Behavior J) (lines : List SchedLine) (old world : Rep
   abbrev history : List Entry
   history = world.history.entries
 
-  -- where no fault was counted each log line was written
-  all-written : (book_of world).faults ≡ (book_of old).faults → ¬ (HasFailedLog history)
-  all-written same =
+  -- where nothing failed in the world, nothing failed in the run
+  well : NothingFailed (book_of old) (book_of world) → NothingFailedIn (take world.passed lines) history
+  well none =
       let s = told.stands in
-      let none : counted (faults_in s.steps) ≡ 0 = sym s.faults ∙ same ∙ fresh.faults in
-      rw (← s.history) (no-failed-log s.steps (none-counted (faults_in s.steps) none))
+      let counts : counted (faults_in s.steps) ≡ 0 = sym s.faults ∙ none.faults ∙ fresh.faults in
+      record {
+        next = subst (λ (ls : List SchedLine). list_any is_fail_next ls ≡ false) (rw told.course at s.passed) (no-fail-next s.steps (none-counted (faults_in s.steps) counts));
+        logs = none.logs;
+      }
 
-  -- a fault is one of which a line tells
-  told-by-line : Rose (book_of old).faults (book_of world).faults → IsFaulted history → TellsFault lines
-  told-by-line rose faulted =
-      let s = told.stands in
-      let was = fresh.faults in
-      let rises = rose.risen in
-      let is = s.faults in
-      let some : 0 < counted (faults_in s.steps) = omega (arith, was, rises, is) in
-      faults-told lines world.passed s.steps (rw told.course at s.passed) (rw told.course at s.right) (some-counted (faults_in s.steps) some) (rw s.history faulted)
+  -- the world failed by a line, or a log line wasn't written
+  faulted : Rose (book_of old).faults (book_of world).faults → WorldFailed history ⊎ LogFailed history → (TellsFault lines world.passed × WorldFailed history) ⊎ LogFailed history
+  faulted rose failed = elim failed [
+    | inl world ↦ inl (by-line world, world)
+    | inr log ↦ inr log
+  ]
+    where
+      by-line : WorldFailed history → TellsFault lines world.passed
+      by-line failed =
+          let s = told.stands in
+          let was = fresh.faults in
+          let rises = rose.risen in
+          let is = s.faults in
+          let some : 0 < counted (faults_in s.steps) = omega (arith, was, rises, is) in
+          tells-fault lines world.passed s.steps (rw told.course at s.passed) (rw told.course at s.right) (rw s.history failed.no_stop) (rw s.history failed.logs)
+          (some-counted (faults_in s.steps) some)
 
   -- a bad line names an id that was never there
   unknown-at : (n : ℕ) → IsBadLine (book_of world) n → IsUnknownAt lines world.passed history
@@ -99,14 +110,14 @@ module _ {J : Type 0} (b : Behavior J) (lines : List SchedLine) (old world : Rep
   ends_run : StopEndsSchedules → IsSchedule lines → IsRun b (take world.passed lines) history → (events : ℕ) (e : Ended) → EndsBy events (book_of old) (book_of world) e
       → ¬ (e ≡ ended.Memory) → EndsRun events lines world.passed history e
   ends_run stop made run events ended.Stopped ends some =
-      (stop lines world.passed history _ made run.told (stopped-newest history ends.0), ends.0, all-written ends.1)
-  ends_run stop made run events (ended.Spent n) ends some = (ends.0, ends.1)
-  ends_run stop made run events ended.WorldFault ends some = (told-by-line ends.0 ends.1, ends.1)
-  ends_run stop made run events (ended.BadLine n) ends some = (ends.0.next, unknown-at n ends.0)
+      (stop lines world.passed history _ made run.told (stopped-newest history ends.0), ends.0, well ends.1)
+  ends_run stop made run events (ended.Spent n) ends some = (ends.0, ends.1, well ends.2)
+  ends_run stop made run events ended.WorldFault ends some = faulted ends.0 ends.1
+  ends_run stop made run events (ended.BadLine n) ends some = (ends.0.next, unknown-at n ends.0, well ends.1)
   ends_run stop made run events ended.Memory ends some = absurd (some refl)
 
-  pub runs_to : StopEndsSchedules → IsSchedule lines → IsRight b (book_of world) → (events : ℕ) (e : Ended) → EndsBy events (book_of old) (book_of world) e
+  pub runs_to : StopEndsSchedules → IsSchedule lines → IsRight b (book_of world) → (events : ℕ) (e : Ended) → HasAtMost events history → EndsBy events (book_of old) (book_of world) e
       → ¬ (e ≡ ended.Memory) → RunsTo b events lines e history
-  runs_to stop made right events e ends some =
+  runs_to stop made right events e few ends some =
       let run = passed_run made right in
-      (world.passed, run, ends_run stop made run events e ends some)
+      (world.passed, run, few, ends_run stop made run events e ends some)

@@ -1,9 +1,8 @@
 -- What the steps of a replay make of the lines that it passes.
-use Rattle.std.proofs.Common.{◌≡◌, ◌⊎◌, inl, inr, ℕ, suc, ◌+◌, ◌<◌, ◌≤◌, Bool, true, false, ◌||◌, cond, List, [], ◌∷◌, ◌++◌, length, take, drop, refl, Option, Some, None, slice_get, sym, ap, subst, ◌∙◌, arith, length-append}
+use Rattle.std.proofs.Common.{◌≡◌, ◌⊎◌, inl, inr, ℕ, suc, ◌+◌, ◌<◌, Bool, true, false, ◌||◌, cond, List, [], ◌∷◌, ◌++◌, take, refl, Option, Some, None, slice_get, sym, ap, subst, ◌∙◌, arith}
 use Rattle.std.specs.Prelude.{◌&&◌}
 use Rattle.std.specs.List.{list_any}
-use Rattle.std.proofs.lemmas.Bool.{ltb-true}
-use Rattle.std.proofs.lemmas.List.{take-append-drop}
+use Rattle.resty_base.specs.BoolLaws.{by_test}
 use Rattle.resty_world.specs.declared.event.Event.{Event}
 use Rattle.resty_world.specs.declared.event.Event.TheVariants as event
 use Rattle.resty_world.specs.declared.entry.Entry.{Entry}
@@ -12,9 +11,9 @@ use Rattle.resty_world.specs.declared.schedule_line.SchedLine.{SchedLine}
 use Rattle.resty_world.specs.declared.schedule_line.SchedLine.TheVariants as line
 use Rattle.schedule_text.specs.Fitting.{IsSchedule}
 use Rattle.schedule_text.specs.Ranges.{IsBytes, IsEvent, IsLine}
-use Rattle.schedule.specs.Steps.{Step, Passed, Answered, Listened, AskedAtBadLine, AskedAtEnd, Logging, AreSteps, history_of, lines_of, is_skipped, unspent, begins_by_failing, newest_given, IsAnswer, faults_in}
-use Rattle.engine.specs.Endings.{events_of, HasNoStop, HasFailedLog, IsFaulted, IsStopped}
-use Rattle.commands.specs.Run.{TellsFault, is_fault_line}
+use Rattle.schedule.specs.Steps.{Step, Passed, Answered, Listened, AskedAtBadLine, AskedAtEnd, AreSteps, history_of, lines_of, given_by, is_skipped, begins_by_failing, newest_given, IsAnswer, one_if, is_fail_next, is_failed_log, faults_in}
+use Rattle.engine.specs.Endings.{events_of, HasNoStop, HasNoFailedLog, IsStopped}
+use Rattle.commands.specs.Run.{TellsFault}
 
 -- each line is within its ranges
 abbrev pub AreRanged : List SchedLine → Type 0
@@ -134,199 +133,90 @@ older-none false e h none = no-stop-rest e (events_of h) none
 
 answer-events : (steps : List Step) (e : Entry) (n : ℕ) (h : List Entry) → IsAnswer steps e n → events_of (e ∷ h) ≡ events_of h
 answer-events steps (entry.Given e) n h right = absurd right
-answer-events steps (entry.Put i bytes) n h right = refl
-answer-events steps (entry.Later i) n h right = refl
-answer-events steps (entry.Lost i) n h right = refl
-answer-events steps (entry.Close i) n h right = refl
-answer-events steps (entry.Dial who host port k) n h right = refl
-answer-events steps (entry.Log who text written) n h right = refl
-answer-events steps (entry.Dict who zone call answer) n h right = refl
-answer-events steps (entry.Take who key got) n h right = refl
-answer-events steps (entry.Keep who k key idle size closed) n h right = refl
-answer-events steps (entry.Timer who due answer) n h right = refl
-answer-events steps (entry.Start k) n h right = refl
-answer-events steps (entry.Turned c) n h right = refl
-answer-events steps (entry.Dropped who) n h right = refl
+answer-events steps e n h right = refl
 
-few-given : (b : Bool) (e : Event) (h : List Entry) → length (events_of ((cond b [] (entry.Given e ∷ [])) ++ h)) ≤ length (events_of h) + 1
-few-given true e h = omega arith
-few-given false e h = omega arith
+-- what is told before a line is told with it
+older-events : (h : List Entry) (l : SchedLine) → HasNoStop (events_of (given_by h l ++ h)) → HasNoStop (events_of h)
+older-events h (line.Given e) none = older-none (is_skipped h (line.Given e)) e h none
+older-events h l none = none
 
--- there are no more events than lines
-pub few-events : (schedule : List SchedLine) (steps : List Step) → AreSteps schedule steps → length (events_of (history_of steps)) ≤ length (lines_of steps)
-few-events schedule [] right = omega arith
-few-events schedule (Passed (line.Given e) ∷ steps) right =
-    omega (arith, few-events schedule steps right.0, few-given (is_skipped (history_of steps) (line.Given e)) e (history_of steps), length-append (lines_of steps) (line.Given e ∷ []))
-few-events schedule (Passed (line.Room i n) ∷ steps) right = omega (arith, few-events schedule steps right.0, length-append (lines_of steps) (line.Room i n ∷ []))
-few-events schedule (Passed line.FailNext ∷ steps) right = omega (arith, few-events schedule steps right.0, length-append (lines_of steps) (line.FailNext ∷ []))
-few-events schedule (Passed line.FailDial ∷ steps) right = omega (arith, few-events schedule steps right.0, length-append (lines_of steps) (line.FailDial ∷ []))
-few-events schedule (Passed line.FailLog ∷ steps) right = omega (arith, few-events schedule steps right.0, length-append (lines_of steps) (line.FailLog ∷ []))
-few-events schedule (Passed line.FailListen ∷ steps) right = omega (arith, few-events schedule steps right.0, length-append (lines_of steps) (line.FailListen ∷ []))
-few-events schedule (Passed (line.FailPut i) ∷ steps) right = omega (arith, few-events schedule steps right.0, length-append (lines_of steps) (line.FailPut i ∷ []))
-few-events schedule (Answered e n ∷ steps) right = omega (arith, few-events schedule steps right.0, ap length (answer-events steps e n (history_of steps) right.1.1))
-few-events schedule (Listened port failed ∷ steps) right = few-events schedule steps right.0
-few-events schedule (AskedAtBadLine ∷ steps) right = few-events schedule steps right.0
-few-events schedule (AskedAtEnd ∷ steps) right = few-events schedule steps right.0
+given-logs : (b : Bool) (e : Event) (h : List Entry) → HasNoFailedLog ((cond b [] (entry.Given e ∷ [])) ++ h) → HasNoFailedLog h
+given-logs true e h none = none
+given-logs false e h none = none
 
--- without a fault each log line was written
-failed-given : (b : Bool) (e : Event) (h : List Entry) → HasFailedLog ((cond b [] (entry.Given e ∷ [])) ++ h) → HasFailedLog h
-failed-given true e h failed = failed
-failed-given false e h failed = failed
+older-logs : (h : List Entry) (l : SchedLine) → HasNoFailedLog (given_by h l ++ h) → HasNoFailedLog h
+older-logs h (line.Given e) none = given-logs (is_skipped h (line.Given e)) e h none
+older-logs h l none = none
 
-pub no-failed-log : (steps : List Step) → faults_in steps ≡ 0 → HasFailedLog (history_of steps) → ⊥
-no-failed-log [] none failed = failed
-no-failed-log (Passed (line.Given e) ∷ steps) none failed = no-failed-log steps (omega (arith, none)) (failed-given (is_skipped (history_of steps) (line.Given e)) e (history_of steps) failed)
-no-failed-log (Passed line.FailNext ∷ steps) none failed = absurd (omega (arith, none))
-no-failed-log (Passed line.FailDial ∷ steps) none failed = no-failed-log steps (omega (arith, none)) failed
-no-failed-log (Passed line.FailLog ∷ steps) none failed = no-failed-log steps (omega (arith, none)) failed
-no-failed-log (Passed line.FailListen ∷ steps) none failed = no-failed-log steps (omega (arith, none)) failed
-no-failed-log (Passed (line.Room i n) ∷ steps) none failed = no-failed-log steps (omega (arith, none)) failed
-no-failed-log (Passed (line.FailPut i) ∷ steps) none failed = no-failed-log steps (omega (arith, none)) failed
-no-failed-log (Answered (entry.Log who text false) n ∷ steps) none failed = absurd (omega (arith, none))
-no-failed-log (Answered (entry.Given e) n ∷ steps) none failed = no-failed-log steps (omega (arith, none)) failed
-no-failed-log (Answered (entry.Put i bytes) n ∷ steps) none failed = no-failed-log steps (omega (arith, none)) failed
-no-failed-log (Answered (entry.Log who text true) n ∷ steps) none failed = no-failed-log steps (omega (arith, none)) failed
-no-failed-log (Answered (entry.Later i) n ∷ steps) none failed = no-failed-log steps (omega (arith, none)) failed
-no-failed-log (Answered (entry.Lost i) n ∷ steps) none failed = no-failed-log steps (omega (arith, none)) failed
-no-failed-log (Answered (entry.Close i) n ∷ steps) none failed = no-failed-log steps (omega (arith, none)) failed
-no-failed-log (Answered (entry.Dial who host port k) n ∷ steps) none failed = no-failed-log steps (omega (arith, none)) failed
-no-failed-log (Answered (entry.Dict who zone call answer) n ∷ steps) none failed = no-failed-log steps (omega (arith, none)) failed
-no-failed-log (Answered (entry.Take who key got) n ∷ steps) none failed = no-failed-log steps (omega (arith, none)) failed
-no-failed-log (Answered (entry.Keep who k key idle size closed) n ∷ steps) none failed = no-failed-log steps (omega (arith, none)) failed
-no-failed-log (Answered (entry.Timer who due answer) n ∷ steps) none failed = no-failed-log steps (omega (arith, none)) failed
-no-failed-log (Answered (entry.Start k) n ∷ steps) none failed = no-failed-log steps (omega (arith, none)) failed
-no-failed-log (Answered (entry.Turned c) n ∷ steps) none failed = no-failed-log steps (omega (arith, none)) failed
-no-failed-log (Answered (entry.Dropped who) n ∷ steps) none failed = no-failed-log steps (omega (arith, none)) failed
-no-failed-log (Listened port true ∷ steps) none failed = absurd (omega (arith, none))
-no-failed-log (Listened port false ∷ steps) none failed = no-failed-log steps (omega (arith, none)) failed
-no-failed-log (AskedAtBadLine ∷ steps) none failed = no-failed-log steps (omega (arith, none)) failed
-no-failed-log (AskedAtEnd ∷ steps) none failed = absurd (omega (arith, none))
+-- and before an answer
+answer-logs : (e : Entry) (h : List Entry) → HasNoFailedLog (e ∷ h) → (is_failed_log e ≡ false) × HasNoFailedLog h
+answer-logs (entry.Log who text false) h none = absurd (let no : true ≡ false = none in cc)
+answer-logs e h none = (refl, none)
 
--- a line that tells of a fault is one of more lines
-tells-more : (xs ys : List SchedLine) → TellsFault xs → TellsFault (xs ++ ys)
-tells-more [] ys tells = absurd (let no : false ≡ true = tells in cc)
-tells-more (x ∷ xs) ys tells = either (is_fault_line x) (list_any is_fault_line xs) _ tells (λ rest. tells-more xs ys rest)
+-- whether one of the lines is `fail next`
+one-more : (xs : List SchedLine) (l : SchedLine) → list_any is_fail_next (xs ++ l ∷ []) ≡ (list_any is_fail_next xs || is_fail_next l)
+one-more [] l = by (is_fail_next l)
   where
-    either : (b c d : Bool) → (b || c) ≡ true → (c ≡ true → d ≡ true) → (b || d) ≡ true
-    either true c d is more = refl
-    either false c d is more = more is
-
-tells-last : (xs : List SchedLine) (l : SchedLine) → is_fault_line l ≡ true → TellsFault (xs ++ l ∷ [])
-tells-last [] l is = ap (λ b. b || false) is
-tells-last (x ∷ xs) l is = later (is_fault_line x) (list_any is_fault_line (xs ++ l ∷ [])) (tells-last xs l is)
+    by : (b : Bool) → (b || false) ≡ b
+    by true = refl
+    by false = refl
+one-more (x ∷ xs) l = by (is_fail_next x) (one-more xs l)
   where
-    later : (b c : Bool) → c ≡ true → (b || c) ≡ true
-    later true c is = refl
-    later false c is = is
+    by : (b : Bool) → list_any is_fail_next (xs ++ l ∷ []) ≡ (list_any is_fail_next xs || is_fail_next l)
+        → (b || list_any is_fail_next (xs ++ l ∷ [])) ≡ ((b || list_any is_fail_next xs) || is_fail_next l)
+    by true same = refl
+    by false same = same
 
-tells-begun : (lines : List SchedLine) → begins_by_failing lines ≡ true → TellsFault lines
-tells-begun [] begins = absurd (let no : false ≡ true = begins in cc)
-tells-begun (line.FailListen ∷ lines) begins = refl
-tells-begun ((line.Given e) ∷ lines) begins = absurd (let no : false ≡ true = begins in cc)
-tells-begun (line.FailNext ∷ lines) begins = absurd (let no : false ≡ true = begins in cc)
-tells-begun (line.FailDial ∷ lines) begins = absurd (let no : false ≡ true = begins in cc)
-tells-begun (line.FailLog ∷ lines) begins = absurd (let no : false ≡ true = begins in cc)
-tells-begun ((line.Room i n) ∷ lines) begins = absurd (let no : false ≡ true = begins in cc)
-tells-begun ((line.FailPut i) ∷ lines) begins = absurd (let no : false ≡ true = begins in cc)
+none-both : (m n : ℕ) → m + n ≡ 0 → (m ≡ 0) × (n ≡ 0)
+none-both m n none = (omega (arith, none), omega (arith, none))
 
--- a `fail log` line that isn't spent was passed
-unspent-log : (steps : List Step) → 0 < unspent Logging steps → TellsFault (lines_of steps)
-unspent-log [] some = absurd (omega (arith, some))
-unspent-log (Passed line.FailLog ∷ steps) some = tells-last (lines_of steps) line.FailLog refl
-unspent-log (Passed (line.Given e) ∷ steps) some = tells-more (lines_of steps) (line.Given e ∷ []) (unspent-log steps (omega (arith, some)))
-unspent-log (Passed line.FailNext ∷ steps) some = tells-more (lines_of steps) (line.FailNext ∷ []) (unspent-log steps (omega (arith, some)))
-unspent-log (Passed line.FailDial ∷ steps) some = tells-more (lines_of steps) (line.FailDial ∷ []) (unspent-log steps (omega (arith, some)))
-unspent-log (Passed line.FailListen ∷ steps) some = tells-more (lines_of steps) (line.FailListen ∷ []) (unspent-log steps (omega (arith, some)))
-unspent-log (Passed (line.Room i n) ∷ steps) some = tells-more (lines_of steps) (line.Room i n ∷ []) (unspent-log steps (omega (arith, some)))
-unspent-log (Passed (line.FailPut i) ∷ steps) some = tells-more (lines_of steps) (line.FailPut i ∷ []) (unspent-log steps (omega (arith, some)))
-unspent-log (Answered e n ∷ steps) some = unspent-log steps (omega (arith, some))
-unspent-log (Listened port failed ∷ steps) some = unspent-log steps some
-unspent-log (AskedAtBadLine ∷ steps) some = unspent-log steps some
-unspent-log (AskedAtEnd ∷ steps) some = unspent-log steps some
+not-one : (b : Bool) → one_if b ≡ 0 → b ≡ false
+not-one true none = absurd (let no : 1 ≡ 0 = none in omega (arith, no))
+not-one false none = refl
 
--- a log line that wasn't written
-failed-log : (schedule : List SchedLine) (steps : List Step) → AreSteps schedule steps → HasFailedLog (history_of steps) → TellsFault (lines_of steps)
-failed-log schedule [] right failed = absurd failed
-failed-log schedule (Passed (line.Given e) ∷ steps) right failed =
-    tells-more (lines_of steps) (line.Given e ∷ []) (failed-log schedule steps right.0 (failed-given (is_skipped (history_of steps) (line.Given e)) e (history_of steps) failed))
-failed-log schedule (Passed line.FailNext ∷ steps) right failed = tells-more (lines_of steps) (line.FailNext ∷ []) (failed-log schedule steps right.0 failed)
-failed-log schedule (Passed line.FailDial ∷ steps) right failed = tells-more (lines_of steps) (line.FailDial ∷ []) (failed-log schedule steps right.0 failed)
-failed-log schedule (Passed line.FailLog ∷ steps) right failed = tells-more (lines_of steps) (line.FailLog ∷ []) (failed-log schedule steps right.0 failed)
-failed-log schedule (Passed line.FailListen ∷ steps) right failed = tells-more (lines_of steps) (line.FailListen ∷ []) (failed-log schedule steps right.0 failed)
-failed-log schedule (Passed (line.Room i n) ∷ steps) right failed = tells-more (lines_of steps) (line.Room i n ∷ []) (failed-log schedule steps right.0 failed)
-failed-log schedule (Passed (line.FailPut i) ∷ steps) right failed = tells-more (lines_of steps) (line.FailPut i ∷ []) (failed-log schedule steps right.0 failed)
-failed-log schedule (Answered (entry.Log who text false) n ∷ steps) right failed = unspent-log steps (ltb-true 0 (unspent Logging steps) (sym right.1.0))
-failed-log schedule (Answered (entry.Given e) n ∷ steps) right failed = failed-log schedule steps right.0 failed
-failed-log schedule (Answered (entry.Put i bytes) n ∷ steps) right failed = failed-log schedule steps right.0 failed
-failed-log schedule (Answered (entry.Log who text true) n ∷ steps) right failed = failed-log schedule steps right.0 failed
-failed-log schedule (Answered (entry.Later i) n ∷ steps) right failed = failed-log schedule steps right.0 failed
-failed-log schedule (Answered (entry.Lost i) n ∷ steps) right failed = failed-log schedule steps right.0 failed
-failed-log schedule (Answered (entry.Close i) n ∷ steps) right failed = failed-log schedule steps right.0 failed
-failed-log schedule (Answered (entry.Dial who host port k) n ∷ steps) right failed = failed-log schedule steps right.0 failed
-failed-log schedule (Answered (entry.Dict who zone call answer) n ∷ steps) right failed = failed-log schedule steps right.0 failed
-failed-log schedule (Answered (entry.Take who key got) n ∷ steps) right failed = failed-log schedule steps right.0 failed
-failed-log schedule (Answered (entry.Keep who k key idle size closed) n ∷ steps) right failed = failed-log schedule steps right.0 failed
-failed-log schedule (Answered (entry.Timer who due answer) n ∷ steps) right failed = failed-log schedule steps right.0 failed
-failed-log schedule (Answered (entry.Start k) n ∷ steps) right failed = failed-log schedule steps right.0 failed
-failed-log schedule (Answered (entry.Turned c) n ∷ steps) right failed = failed-log schedule steps right.0 failed
-failed-log schedule (Answered (entry.Dropped who) n ∷ steps) right failed = failed-log schedule steps right.0 failed
-failed-log schedule (Listened port failed ∷ steps) right log = failed-log schedule steps right.0 log
-failed-log schedule (AskedAtBadLine ∷ steps) right failed = failed-log schedule steps right.0 failed
-failed-log schedule (AskedAtEnd ∷ steps) right failed = failed-log schedule steps right.0 failed
-
-wider : (l : SchedLine) (steps : List Step) (schedule : List SchedLine) → TellsFault (lines_of steps) ⊎ TellsFault schedule
-    → TellsFault (lines_of steps ++ l ∷ []) ⊎ TellsFault schedule
-wider l steps schedule tells = elim tells [
-  | inl first ↦ inl (tells-more (lines_of steps) (l ∷ []) first)
-  | inr all ↦ inr all
-]
+-- without a fault no line is `fail next`
+pub no-fail-next : (steps : List Step) → faults_in steps ≡ 0 → list_any is_fail_next (lines_of steps) ≡ false
+no-fail-next [] none = refl
+no-fail-next (Passed l ∷ steps) none =
+    let both = none-both (faults_in steps) (one_if (is_fail_next l)) none in
+    one-more (lines_of steps) l ∙ ap (λ b. b || is_fail_next l) (no-fail-next steps both.0) ∙ not-one (is_fail_next l) both.1
+no-fail-next (Answered e n ∷ steps) none = no-fail-next steps (none-both (faults_in steps) (one_if (is_failed_log e)) none).0
+no-fail-next (Listened port failed ∷ steps) none = no-fail-next steps (none-both (faults_in steps) (one_if failed) none).0
+no-fail-next (AskedAtBadLine ∷ steps) none = no-fail-next steps (omega (arith, none))
+no-fail-next (AskedAtEnd ∷ steps) none = no-fail-next steps (omega (arith, none))
 
 first : (b c : Bool) → (b && c) ≡ true → b ≡ true
 first true c is = refl
 first false c is = absurd (let no : false ≡ true = is in cc)
 
--- a fault before Stop is one of which a line tells
-told-fault : (schedule : List SchedLine) (steps : List Step) → AreSteps schedule steps → HasNoStop (events_of (history_of steps)) → 0 < faults_in steps
-    → TellsFault (lines_of steps) ⊎ TellsFault schedule
-told-fault schedule [] right none some = absurd (omega (arith, some))
-told-fault schedule (Passed (line.Given e) ∷ steps) right none some =
-    wider (line.Given e) steps schedule (told-fault schedule steps right.0 (older-none (is_skipped (history_of steps) (line.Given e)) e (history_of steps) none) (omega (arith, some)))
-told-fault schedule (Passed line.FailNext ∷ steps) right none some = inl (tells-last (lines_of steps) line.FailNext refl)
-told-fault schedule (Passed line.FailDial ∷ steps) right none some = wider line.FailDial steps schedule (told-fault schedule steps right.0 none (omega (arith, some)))
-told-fault schedule (Passed line.FailLog ∷ steps) right none some = wider line.FailLog steps schedule (told-fault schedule steps right.0 none (omega (arith, some)))
-told-fault schedule (Passed line.FailListen ∷ steps) right none some = wider line.FailListen steps schedule (told-fault schedule steps right.0 none (omega (arith, some)))
-told-fault schedule (Passed (line.Room i n) ∷ steps) right none some = wider (line.Room i n) steps schedule (told-fault schedule steps right.0 none (omega (arith, some)))
-told-fault schedule (Passed (line.FailPut i) ∷ steps) right none some = wider (line.FailPut i) steps schedule (told-fault schedule steps right.0 none (omega (arith, some)))
-told-fault schedule (Answered (entry.Log who text false) n ∷ steps) right none some = inl (unspent-log steps (ltb-true 0 (unspent Logging steps) (sym right.1.0)))
-told-fault schedule (Answered (entry.Given e) n ∷ steps) right none some = absurd right.1.1
-told-fault schedule (Answered (entry.Put i bytes) n ∷ steps) right none some = told-fault schedule steps right.0 none (omega (arith, some))
-told-fault schedule (Answered (entry.Log who text true) n ∷ steps) right none some = told-fault schedule steps right.0 none (omega (arith, some))
-told-fault schedule (Answered (entry.Later i) n ∷ steps) right none some = told-fault schedule steps right.0 none (omega (arith, some))
-told-fault schedule (Answered (entry.Lost i) n ∷ steps) right none some = told-fault schedule steps right.0 none (omega (arith, some))
-told-fault schedule (Answered (entry.Close i) n ∷ steps) right none some = told-fault schedule steps right.0 none (omega (arith, some))
-told-fault schedule (Answered (entry.Dial who host port k) n ∷ steps) right none some = told-fault schedule steps right.0 none (omega (arith, some))
-told-fault schedule (Answered (entry.Dict who zone call answer) n ∷ steps) right none some = told-fault schedule steps right.0 none (omega (arith, some))
-told-fault schedule (Answered (entry.Take who key got) n ∷ steps) right none some = told-fault schedule steps right.0 none (omega (arith, some))
-told-fault schedule (Answered (entry.Keep who k key idle size closed) n ∷ steps) right none some = told-fault schedule steps right.0 none (omega (arith, some))
-told-fault schedule (Answered (entry.Timer who due answer) n ∷ steps) right none some = told-fault schedule steps right.0 none (omega (arith, some))
-told-fault schedule (Answered (entry.Start k) n ∷ steps) right none some = told-fault schedule steps right.0 none (omega (arith, some))
-told-fault schedule (Answered (entry.Turned c) n ∷ steps) right none some = told-fault schedule steps right.0 none (omega (arith, some))
-told-fault schedule (Answered (entry.Dropped who) n ∷ steps) right none some = told-fault schedule steps right.0 none (omega (arith, some))
-told-fault schedule (Listened port false ∷ steps) right none some = told-fault schedule steps right.0 none (omega (arith, some))
-told-fault schedule (Listened port true ∷ steps) right none some = inr (tells-begun schedule (first (begins_by_failing schedule) _ (sym right.1.0)))
-told-fault schedule (AskedAtBadLine ∷ steps) right none some = told-fault schedule steps right.0 none (omega (arith, some))
-told-fault schedule (AskedAtEnd ∷ steps) right none some = absurd (no-stop (history_of steps) none right.1)
+some-before : (n : ℕ) (b : Bool) → b ≡ false → 0 < n + one_if b → 0 < n
+some-before n true is some = absurd (let wrong : true ≡ false = is in cc)
+some-before n false is some = omega (arith, some)
 
--- a fault at which serving ends is one of which a line of the schedule tells
-pub faults-told : (lines : List SchedLine) (passed : ℕ) (steps : List Step) → lines_of steps ≡ take passed lines → AreSteps lines steps → 0 < faults_in steps
-    → IsFaulted (history_of steps) → TellsFault lines
-faults-told lines passed steps here right some faulted = elim faulted [
-  | inl none ↦ elim (told-fault lines steps right none some) [
-    | inl first ↦ in-all first
-    | inr all ↦ all
-  ]
-  | inr failed ↦ in-all (failed-log lines steps right failed)
-]
+-- a fault of the world before Stop is one of which a line tells
+told-fault : (schedule : List SchedLine) (steps : List Step) → AreSteps schedule steps → HasNoStop (events_of (history_of steps)) → HasNoFailedLog (history_of steps) → 0 < faults_in steps
+    → (list_any is_fail_next (lines_of steps) ≡ true) ⊎ (begins_by_failing schedule ≡ true)
+told-fault schedule [] right none logs some = absurd (omega (arith, some))
+told-fault schedule (Passed l ∷ steps) right none logs some =
+    by_test (is_fail_next l)
+    (λ next. inl (one-more (lines_of steps) l ∙ ap (λ b. list_any is_fail_next (lines_of steps) || b) next ∙ last (list_any is_fail_next (lines_of steps))))
+    (λ other. elim (told-fault schedule steps right.0 (older-events (history_of steps) l none) (older-logs (history_of steps) l logs) (some-before (faults_in steps) (is_fail_next l) other some)) [
+      | inl before ↦ inl (one-more (lines_of steps) l ∙ ap (λ b. b || is_fail_next l) before)
+      | inr begins ↦ inr begins
+    ])
   where
-    in-all : TellsFault (lines_of steps) → TellsFault lines
-    in-all first = subst TellsFault (take-append-drop passed lines) (tells-more (take passed lines) (drop passed lines) (subst TellsFault here first))
+    last : (b : Bool) → (b || true) ≡ true
+    last true = refl
+    last false = refl
+told-fault schedule (Answered e n ∷ steps) right none logs some =
+    let written = answer-logs e (history_of steps) logs in
+    told-fault schedule steps right.0 (subst HasNoStop (answer-events steps e n (history_of steps) right.1.1) none) written.1 (some-before (faults_in steps) (is_failed_log e) written.0 some)
+told-fault schedule (Listened port false ∷ steps) right none logs some = told-fault schedule steps right.0 none logs (omega (arith, some))
+told-fault schedule (Listened port true ∷ steps) right none logs some = inr (first (begins_by_failing schedule) _ (sym right.1.0))
+told-fault schedule (AskedAtBadLine ∷ steps) right none logs some = told-fault schedule steps right.0 none logs (omega (arith, some))
+told-fault schedule (AskedAtEnd ∷ steps) right none logs some = absurd (no-stop (history_of steps) none right.1)
+
+pub tells-fault : (lines : List SchedLine) (passed : ℕ) (steps : List Step) → lines_of steps ≡ take passed lines → AreSteps lines steps → HasNoStop (events_of (history_of steps))
+    → HasNoFailedLog (history_of steps) → 0 < faults_in steps → TellsFault lines passed
+tells-fault lines passed steps here right none logs some =
+    subst (λ (ls : List SchedLine). (list_any is_fail_next ls ≡ true) ⊎ (begins_by_failing lines ≡ true)) here (told-fault lines steps right none logs some)

@@ -1,6 +1,5 @@
 -- From what each step says to what is said of the work.
-use Rattle.std.proofs.Common.{◌≡◌, ◌≢◌, ◌≤◌, ℕ, inl, inr, List, ◌++◌, length, take, Option, IfSome, refl, sym, ap, subst, ◌∙◌, arith}
-use Rattle.std.proofs.lemmas.List.{length-take}
+use Rattle.std.proofs.Common.{◌≡◌, ◌≢◌, ℕ, inl, inr, List, Option, IfSome, refl, sym, ap, subst, ◌∙◌}
 use Rattle.resty_base.specs.Accounts.{Account}
 use Rattle.resty_base.specs.Counting.{Rose}
 use Rattle.resty_base.specs.FileMap.{FileMap, FileAccount}
@@ -10,7 +9,6 @@ use Rattle.resty_world.specs.Book.{Book}
 use Rattle.resty_world.specs.declared.entry.Entry.{Entry}
 use Rattle.resty_world.specs.declared.schedule_line.SchedLine.{SchedLine}
 use Rattle.schedule_text.specs.EntryTexts.{history_text}
-use Rattle.engine.specs.Endings.{events_of, IsSpent}
 use Rattle.engine.specs.declared.server.Ended.{Ended}
 use Rattle.engine.specs.declared.server.Ended.TheVariants as ended
 use Rattle.commands.specs.declared.command_line.Mode.{Mode}
@@ -24,7 +22,7 @@ use Rattle.commands.specs.Ending.{ending_by, site_status, status_of}
 use Rattle.commands.specs.Live.{IsServed, ServesTo, deaf, unheard, served, IsServedFor, LeavesServed, LeavesBy}
 use Rattle.commands.specs.Outside.{Outside}
 use Rattle.commands.specs.Reading.{EndsAtSchedule}
-use Rattle.commands.specs.Run.{IsRun, RunsTo, has_dropped}
+use Rattle.commands.specs.Run.{RunsTo, has_dropped}
 use Rattle.lua_run.specs.Answers.{Site}
 use Rattle.lua_modules.specs.TextsOfFiles.{ReadsWell}
 use Rattle.site_load.specs.Loading.{HasSite, NotLoaded}
@@ -36,7 +34,6 @@ use Rattle.commands.specs.Words.{Command}
 use Rattle.commands.specs.Works.{Works}
 use Rattle.commands.specs.Writing.{Writes, WritesBy, WritesRun, WritesCheck, WritesHistory, whole, cut, none, WritesHistoryOf, WritesOk, IsRunOf, ending_with}
 use Rattle.commands.proofs.Names.{weaker_some, both_some}
-use Rattle.commands.proofs.Story.{few-events}
 
 nothing : (out : Account) → TakesNothing out out
 nothing out = record { told = refl; faults = refl }
@@ -161,15 +158,6 @@ module _ (c : Command) where
     is_done : IfSome old.files.told (λ held. (v : Verdict) × IsOf c held v × (ending.Done ≡ ending_of v))
     is_done = weaker_some old.files.told _ _ (λ held v. (Runs site lines, v, refl)) runs
 
-    -- no more events are given than there are lines
-    few : (passed : ℕ) (h : List Entry) → IsRun (site_behavior site) (take passed lines) h → IsSpent c.events h → c.events ≤ length lines
-    few passed h run spent =
-        let told = run.told in
-        let most = few-events (take passed lines ++ told.after) told.steps told.steps_right in
-        let same = ap (λ xs. length (events_of xs)) told.steps_history in
-        let went = ap length told.steps_lines in
-        omega (arith, most, same, went, spent.count, length-take passed lines)
-
     at_stop : (h : List Entry) (to : Ending) → RunsTo (site_behavior site) c.events lines ended.Stopped h → to ≡ ending_with ended.Stopped (has_dropped h) → TakesAll (history_text h) old.out new.out → Works c old new to
     at_stop h to run is all = by_test (has_dropped h)
         (λ dropped. let same : to ≡ ending.Memory = is ∙ ap (ending_with ended.Stopped) dropped in rw same (record {
@@ -186,21 +174,21 @@ module _ (c : Command) where
     written : (e : Ended) (h : List Entry) (to : Ending) → RunsTo (site_behavior site) c.events lines e h → to ≡ ending_with e (has_dropped h) → TakesAll (history_text h) old.out new.out → Works c old new to
     written ended.Stopped h to run is all = at_stop h to run is all
     written (ended.Spent n) h to run is all = let same : to ≡ ending.EventsSpent = is in rw same (record {
-      due = cut_short ending.EventsSpent (few run.0 h run.1 run.2.1);
-      writes = by_replay status.EventsSpent (h, subst (λ k. IsRunOf c old.files.told (ended.Spent k) h) run.2.0 (of_run (ended.Spent n) h run), all);
+      due = cut_short ending.EventsSpent (h, subst (λ k. RunsTo (site_behavior site) c.events lines (ended.Spent k) h) run.3.0 run);
+      writes = by_replay status.EventsSpent (h, subst (λ k. IsRunOf c old.files.told (ended.Spent k) h) run.3.0 (of_run (ended.Spent n) h run), all);
       form = λ no. absurd (let wrong : ending.EventsSpent ≡ ending.Usage = no in cc);
     })
     written ended.WorldFault h to run is all = let same : to ≡ ending.WorldFault = is in rw same (record {
-      due = cut_short ending.WorldFault run.2.0;
+      due = cut_short ending.WorldFault (h, run);
       writes = by_replay status.WorldFault (h, of_run ended.WorldFault h run, all);
       form = λ no. absurd (let wrong : ending.WorldFault ≡ ending.Usage = no in cc);
     })
     written (ended.BadLine n) h to run is all = let same : to ≡ ending.NoSuchId n = is in rw same (record {
-      due = cut_short (ending.NoSuchId n) (run.0, h, run.2.0, run.1, run.2.1);
+      due = cut_short (ending.NoSuchId n) (h, run);
       writes = by_replay status.Schedule (inr (n, (h, of_run (ended.BadLine n) h run, all)));
       form = λ no. absurd (let wrong : ending.NoSuchId n ≡ ending.Usage = no in cc);
     })
-    written ended.Memory h to run is all = absurd run.2
+    written ended.Memory h to run is all = absurd run.3
 
     history_works : (e : Ended) (h : List Entry) (to : Ending) → RunsTo (site_behavior site) c.events lines e h → WritesHistory e h to old.out new.out → Works c old new to
     history_works e h to run (whole is all) = written e h to run is all

@@ -1,16 +1,18 @@
 -- Why the work on a command ends as it does.
-use Rattle.std.specs.Prelude.{◌≡◌, ℕ, ◌+◌, ◌≤◌, List, length, take, IfSome}
+use Rattle.std.specs.Prelude.{◌≡◌, ℕ, List, IfSome}
 use Rattle.resty_base.specs.Counting.{Rose}
 use Rattle.resty_world.specs.Book.{Book}
 use Rattle.resty_world.specs.Given.{IsBadLine}
 use Rattle.resty_world.specs.declared.entry.Entry.{Entry}
 use Rattle.resty_world.specs.declared.schedule_line.SchedLine.{SchedLine}
+use Rattle.engine.specs.declared.server.Ended.{Ended}
+use Rattle.engine.specs.declared.server.Ended.TheVariants as ended
 use Rattle.commands.specs.declared.command_line.Mode.{Mode}
 use Rattle.commands.specs.declared.command_line.Mode.TheVariants as mode
 use Rattle.commands.specs.declared.endings.Ending.{Ending}
 use Rattle.commands.specs.declared.endings.Ending.TheVariants as ending
 use Rattle.commands.specs.Outside.{Outside}
-use Rattle.commands.specs.Run.{IsRun, IsUnknownAt, TellsFault}
+use Rattle.commands.specs.Run.{RunsTo}
 use Rattle.lua_run.specs.Answers.{Site}
 use Rattle.site_load.specs.Loading.{NotLoaded}
 use Rattle.commands.specs.Reading.{FailedAt}
@@ -23,16 +25,16 @@ abbrev pub WritesOut : Mode → Type 0
 WritesOut mode.Serve = ⊥
 WritesOut other = Unit {0}
 
--- a run of the lines before line n comes to that line, which names an id that was never there
-abbrev pub ComesToUnknown : Site → List SchedLine → ℕ → Type 0
-ComesToUnknown site lines n = (passed : ℕ) × (h : List Entry) × (n ≡ passed + 1) × IsRun (site_behavior site) (take passed lines) h × IsUnknownAt lines passed h
+-- a run of the site and these lines ends so
+abbrev pub HasRun : Site → ℕ → List SchedLine → Ended → Type 0
+HasRun site events lines e = (h : List Entry) × RunsTo (site_behavior site) events lines e h
 
--- What may end a run before Stop, and the serving of a live world: so many events were given, of a schedule that has as many lines;
--- a line tells of a fault, or the faults of the live world rose; a line names an id that was never there.
+-- What may end a run before Stop, and the serving of a live world: a run of the lines ends so; or so many events were given, the faults
+-- of the live world rose, or a line of it names an id that was never there.
 abbrev pub CutsShort : Mode → Verdict → ℕ → Book → Book → Ending → Type 0
-CutsShort mode.Replay (Runs site lines) events old new ending.EventsSpent = events ≤ length lines
-CutsShort mode.Replay (Runs site lines) events old new ending.WorldFault = TellsFault lines
-CutsShort mode.Replay (Runs site lines) events old new (ending.NoSuchId n) = ComesToUnknown site lines n
+CutsShort mode.Replay (Runs site lines) events old new ending.EventsSpent = HasRun site events lines (ended.Spent events)
+CutsShort mode.Replay (Runs site lines) events old new ending.WorldFault = HasRun site events lines ended.WorldFault
+CutsShort mode.Replay (Runs site lines) events old new (ending.NoSuchId n) = HasRun site events lines (ended.BadLine n)
 CutsShort mode.Serve (Serves site) events old new ending.EventsSpent = Unit {0}
 CutsShort mode.Serve (Serves site) events old new ending.WorldFault = Rose old.faults new.faults
 CutsShort mode.Serve (Serves site) events old new (ending.NoSuchId n) = IsBadLine new n

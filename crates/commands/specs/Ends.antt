@@ -1,5 +1,5 @@
 -- How the program ends.
-use Rattle.std.specs.Prelude.{◌≡◌, ◌⊎◌, ℕ, List, codes, IfSome}
+use Rattle.std.specs.Prelude.{◌≡◌, ◌⊎◌, ℕ, List, IfSome}
 use Rattle.resty_base.specs.Accounts.{Account}
 use Rattle.resty_base.specs.Counting.{Rose}
 use Rattle.resty_base.specs.FileMap.{FileMap, FileAccount}
@@ -9,7 +9,8 @@ use Rattle.commands.specs.declared.endings.Ending.TheVariants as ending
 use Rattle.commands.specs.declared.endings.Status.{Status}
 use Rattle.commands.specs.declared.endings.Status.TheVariants as status
 use Rattle.commands.specs.Due.{CutsShort, IsDue}
-use Rattle.commands.specs.Ending.{status_of, line_of}
+use Rattle.commands.specs.Ending.{status_of}
+use Rattle.commands.specs.Messages.{line_of, usage_line}
 use Rattle.commands.specs.Outside.{Outside}
 use Rattle.commands.specs.Reading.{FailedAt}
 use Rattle.commands.specs.Verdict.{Verdict, IsVerdict, ending_of}
@@ -17,7 +18,7 @@ use Rattle.commands.specs.Words.{Command, Says, IsForm}
 
 -- the words are no command; or they are one, and the work on it ended as is due. The error output took the line that says so.
 pub data Ends (words : List (List ℕ)) (old new : Outside) (err err' : Account) (s : Status) : Type 0 where
-  no_command : ¬ (IsForm words) → s ≡ status.Usage → Takes (codes "resty: usage: resty MODE [options]\n") err err' → Ends words old new err err' s
+  no_command : ¬ (IsForm words) → s ≡ status.Usage → Takes usage_line err err' → Ends words old new err err' s
   worked : (c : Command) (e : Ending) → Says words c → s ≡ status_of e → IsDue c old new e → Takes (line_of c.schedule e) err err'
       → Ends words old new err err' s
 

@@ -4,6 +4,7 @@ pub mod Sites
 pub mod Outside
 pub mod Verdict
 pub mod Ending
+pub mod Messages
 pub mod Run
 pub mod Taken
 pub mod Due

@@ -5,7 +5,7 @@ use Rattle.resty_world.specs.Book.{Book}
 use Rattle.resty_world.specs.Contract.{Listens}
 use Rattle.resty_world.specs.declared.answers.Listened.TheVariants as listened
 use Rattle.engine_base.specs.Right.{IsRight}
-use Rattle.engine.specs.Endings.{EndsBy}
+use Rattle.engine.specs.Endings.{EndsBy, HasAtMost}
 use Rattle.engine.specs.declared.server.Ended.{Ended}
 use Rattle.commands.specs.declared.command_line.Mode.{Mode}
 use Rattle.commands.specs.declared.command_line.Mode.TheVariants as mode
@@ -20,10 +20,12 @@ use Rattle.commands.specs.Verdict.{Serves, IsOf}
 use Rattle.commands.specs.Words.{Command}
 
 -- The world listens on the site's port, and was served. Its history, where it is reported, is that of one execution of the site's
--- strands, which is lawful, kept, plain and ordered; and serving ended so, for a cause that the world shows.
+-- strands, which is lawful, kept, plain and ordered, and has no more events than may be; and serving ended so, for a cause that the
+-- world shows.
 pub record IsServed (site : Site) (events : ℕ) (e : Ended) (old new : Book) : Type 0 where
   pub port : new.port ≡ Some site.conf.port
   pub right : IsRight (site_behavior site) new
+  pub few : IfSome new.history (HasAtMost events)
   pub ends : EndsBy events old new e
 
 -- how the serving of a site ends, and what becomes of the world: it doesn't listen, or it was served

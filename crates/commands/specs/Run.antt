@@ -1,14 +1,14 @@
 -- The run of a schedule.
-use Rattle.std.specs.Prelude.{◌≡◌, ℕ, ◌+◌, Bool, true, false, List, take, slice_get, Some}
+use Rattle.std.specs.Prelude.{◌≡◌, ◌⊎◌, ℕ, ◌+◌, Bool, true, false, List, take, slice_get, Some}
 use Rattle.std.specs.List.{list_any}
 use Rattle.resty_world.specs.Given.{named_id, names_absent}
 use Rattle.resty_world.specs.declared.entry.Entry.{Entry}
 use Rattle.resty_world.specs.declared.entry.Entry.TheVariants as entry
 use Rattle.resty_world.specs.declared.schedule_line.SchedLine.{SchedLine}
-use Rattle.resty_world.specs.declared.schedule_line.SchedLine.TheVariants as line
 use Rattle.schedule_text.specs.Accepted.{IsHistory, IsHistoryOf}
 use Rattle.schedule_text.specs.EntryTexts.{history_text}
 use Rattle.schedule.specs.Counts.{arrived_in, dials_in}
+use Rattle.schedule.specs.Steps.{begins_by_failing, is_fail_next}
 use Rattle.schedule.specs.Told.{IsTold}
 use Rattle.executions.specs.Executions.{GlobalAction}
 use Rattle.strand_contract.specs.Behaviors.{Behavior}
@@ -16,7 +16,7 @@ use Rattle.executions.specs.Histories.{external, offered_lengths}
 use Rattle.executions.specs.Lawful.{IsLawful, IsKept}
 use Rattle.executions.specs.Plain.{IsPlain}
 use Rattle.executions.specs.Ordered.{IsOrdered}
-use Rattle.engine.specs.Endings.{HasFailedLog, IsStopped, IsSpent, IsFaulted}
+use Rattle.engine.specs.Endings.{HasAtMost, HasNoFailedLog, IsStopped, IsSpent, WorldFailed, LogFailed}
 use Rattle.engine.specs.declared.server.Ended.{Ended}
 use Rattle.engine.specs.declared.server.Ended.TheVariants as ended
 
@@ -32,15 +32,14 @@ pub record IsRun {J : Type 0} (b : Behavior J) (lines : List SchedLine) (h : Lis
   pub ordered : IsOrdered b execution
   pub ranged : IsHistory h
 
--- a line that tells of a fault of the world
-abbrev pub is_fault_line : SchedLine → Bool
-is_fault_line line.FailNext = true
-is_fault_line line.FailLog = true
-is_fault_line line.FailListen = true
-is_fault_line l = false
+-- nothing failed in the run of these lines: none of them is `fail next`, and each log line was written
+pub record NothingFailedIn (lines : List SchedLine) (h : List Entry) : Type 0 where
+  pub next : list_any is_fail_next lines ≡ false
+  pub logs : HasNoFailedLog h
 
-abbrev pub TellsFault : List SchedLine → Type 0
-TellsFault lines = list_any is_fault_line lines ≡ true
+-- one of so many lines is `fail next`, or the first of all is `fail listen`
+abbrev pub TellsFault : List SchedLine → ℕ → Type 0
+TellsFault lines passed = (list_any is_fail_next (take passed lines) ≡ true) ⊎ (begins_by_failing lines ≡ true)
 
 -- the line after so many names a connection that didn't arrive before, or a socket that wasn't dialled
 pub record IsUnknownAt (lines : List SchedLine) (passed : ℕ) (h : List Entry) : Type 0 where
@@ -48,18 +47,18 @@ pub record IsUnknownAt (lines : List SchedLine) (passed : ℕ) (h : List Entry) 
   pub here : slice_get lines passed ≡ Some bad
   pub unknown : names_absent (arrived_in h) (dials_in h) (named_id bad) ≡ true
 
--- How a run ends after so many lines: by Stop, where these are all the lines and each log line was written; once so many events
--- were given; by a fault of which a line tells; or where the line after them names an id that was never there.
+-- How a run ends after so many lines: by Stop, where these are all the lines; once so many events were given; as the world failed, of
+-- which a line tells, or a log line; or where the line after them names an id that was never there.
 abbrev pub EndsRun : ℕ → List SchedLine → ℕ → List Entry → Ended → Type 0
-EndsRun events lines passed h ended.Stopped = (take passed lines ≡ lines) × IsStopped h × ¬ (HasFailedLog h)
-EndsRun events lines passed h (ended.Spent n) = (n ≡ events) × IsSpent events h
-EndsRun events lines passed h ended.WorldFault = TellsFault lines × IsFaulted h
-EndsRun events lines passed h (ended.BadLine n) = (n ≡ passed + 1) × IsUnknownAt lines passed h
+EndsRun events lines passed h ended.Stopped = (take passed lines ≡ lines) × IsStopped h × NothingFailedIn (take passed lines) h
+EndsRun events lines passed h (ended.Spent n) = (n ≡ events) × IsSpent events h × NothingFailedIn (take passed lines) h
+EndsRun events lines passed h ended.WorldFault = (TellsFault lines passed × WorldFailed h) ⊎ LogFailed h
+EndsRun events lines passed h (ended.BadLine n) = (n ≡ passed + 1) × IsUnknownAt lines passed h × NothingFailedIn (take passed lines) h
 EndsRun events lines passed h ended.Memory = ⊥
 
--- the run of the first of these lines, which ended so
+-- the run of the first of these lines, in which no more than so many events were given, and which ended so
 abbrev pub RunsTo : {J : Type 0} → Behavior J → ℕ → List SchedLine → Ended → List Entry → Type 0
-RunsTo b events lines e h = (passed : ℕ) × IsRun b (take passed lines) h × EndsRun events lines passed h e
+RunsTo b events lines e h = (passed : ℕ) × IsRun b (take passed lines) h × HasAtMost events h × EndsRun events lines passed h e
 
 -- no other history has the text of this one
 abbrev pub IsKnownByItsText : List Entry → Type 0

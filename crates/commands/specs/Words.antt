@@ -67,3 +67,7 @@ pub record Says (words : List (List ℕ)) (command : Command) : Type 0 where
 -- the words are a command
 abbrev pub IsForm : List (List ℕ) → Type 0
 IsForm words = (command : Command) × Says words command
+
+-- the words ask to serve the live world
+abbrev pub AsksToServe : List (List ℕ) → Type 0
+AsksToServe words = (command : Command) × Says words command × (command.mode ≡ mode.Serve)

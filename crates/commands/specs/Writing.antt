@@ -1,5 +1,5 @@
 -- What is written on the output.
-use Rattle.std.specs.Prelude.{◌≡◌, ◌⊎◌, ℕ, Bool, true, false, List, codes, Option, IfSome, if◌then◌else◌}
+use Rattle.std.specs.Prelude.{◌≡◌, ◌⊎◌, ℕ, Bool, true, false, List, Option, IfSome, if◌then◌else◌}
 use Rattle.resty_base.specs.Accounts.{Account}
 use Rattle.resty_base.specs.FileMap.{FileMap}
 use Rattle.resty_base.specs.Taking.{TakesAll, TakesPart, TakesNothing}
@@ -15,6 +15,7 @@ use Rattle.commands.specs.declared.endings.Status.TheVariants as status
 use Rattle.commands.specs.declared.endings.Ending.{Ending}
 use Rattle.commands.specs.declared.endings.Ending.TheVariants as ending
 use Rattle.commands.specs.Ending.{ending_by}
+use Rattle.commands.specs.Messages.{site_ok}
 use Rattle.commands.specs.Run.{RunsTo, has_dropped}
 use Rattle.lua_run.specs.Answers.{Site}
 use Rattle.commands.specs.Sites.{site_behavior}
@@ -52,10 +53,6 @@ WritesRun c told status.Memory out out' =
     TakesNothing out out'
     ⊎ ((h : List Entry) × IsRunOf c told ended.Stopped h × (has_dropped h ≡ true) × TakesAll (history_text h) out out')
 WritesRun c told s out out' = TakesNothing out out'
-
--- what is written of a site that is checked
-abbrev pub site_ok : List ℕ
-site_ok = codes "site ok\n"
 
 -- What the output took of a check: with `Done` that the site is one, with `WriteFault` a proper first part of that, else nothing.
 abbrev pub WritesCheck : Status → Account → Account → Type 0

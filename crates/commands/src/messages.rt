@@ -1,13 +1,16 @@
-//! The lines on standard error, each put in pieces, so that it takes no memory.
+//! All that the program says: what is written of a site that is checked, and the lines on standard error, each put in pieces, so that it takes no memory.
 
-ghost use Rattle.std.specs.Prelude.{OnOk, OnErr, codes, decimal};
+ghost use Rattle.std.specs.Prelude.{OnOk, OnErr, decimal};
 ghost use Rattle.resty_base.specs.Taking.{TakesAll, TakesPart};
-ghost use Rattle.commands.specs.Ending.{fault_line, line_of, missing_line, site_line, too_long_line, unreadable_line};
+ghost use Rattle.commands.specs.Messages.{fault_line, line_of, memory_line, missing_line, site_line, too_long_line, unreadable_line, usage_line};
 
 use crate::endings::Ending;
 use itoa::Buffer;
 use resty_base::{Sink, SinkFault, put_all, put_pieces};
 use site_load::SiteFault;
+
+/// What is written of a site that is checked.
+pub const SITE_OK: &[u8] = b"site ok\n";
 
 /// Puts the line that says how the work on a command ended whose schedule has this name.
 pub fn put_line<E: Sink>(err: &mut E, schedule: &str, ending: &Ending) -> Result<(), SinkFault>
@@ -98,16 +101,16 @@ fn put_fault<'a, E: Sink>(
 
 /// Puts the line that says how the program is called.
 pub fn put_usage<E: Sink>(err: &mut E) -> Result<(), SinkFault>
-    ensures ok { OnOk result (TakesAll (codes "resty: usage: resty MODE [options]\n") (E.account err.old) (E.account err.new)) }
-    ensures err { OnErr result (TakesPart (codes "resty: usage: resty MODE [options]\n") (E.account err.old) (E.account err.new)) }
+    ensures ok { OnOk result (TakesAll usage_line (E.account err.old) (E.account err.new)) }
+    ensures err { OnErr result (TakesPart usage_line (E.account err.old) (E.account err.new)) }
 {
     put_all(err, b"resty: usage: resty MODE [options]\n")
 }
 
 /// Puts the line that says that memory ran out.
 pub fn put_out_of_memory<E: Sink>(err: &mut E) -> Result<(), SinkFault>
-    ensures ok { OnOk result (TakesAll (codes "resty: out of memory\n") (E.account err.old) (E.account err.new)) }
-    ensures err { OnErr result (TakesPart (codes "resty: out of memory\n") (E.account err.old) (E.account err.new)) }
+    ensures ok { OnOk result (TakesAll memory_line (E.account err.old) (E.account err.new)) }
+    ensures err { OnErr result (TakesPart memory_line (E.account err.old) (E.account err.new)) }
 {
     put_all(err, b"resty: out of memory\n")
 }

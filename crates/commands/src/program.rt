@@ -6,7 +6,7 @@ ghost use Rattle.resty_base.specs.Taking.{TakesNothing};
 ghost use Rattle.commands.specs.Ends.{Ends, IsJudged, IsComplete};
 ghost use Rattle.commands.specs.Live.{Leaves};
 ghost use Rattle.commands.specs.Outside.{outside};
-ghost use Rattle.commands.specs.Words.{texts, Command, Says, IsForm};
+ghost use Rattle.commands.specs.Words.{texts, AsksToServe, Command, Says, IsForm};
 ghost use Rattle.commands.specs.Writing.{Writes};
 
 use crate::command_line::command_of;
@@ -31,7 +31,7 @@ pub fn resty<F: Files, W: World, O: Sink, E: Sink>(
     out: &mut O,
     err: &mut E,
 ) -> Status
-    requires { IsFresh (W.book live.old) }
+    requires { AsksToServe (texts words.now) → IsFresh (W.book live.old) }
     ensures usage { (result ≡ Status.Usage) ↔ ¬ (IsForm (texts words.now)) }
     ensures ending { Ends (texts words.now) (outside (F.account files.old) (W.book live.old) (O.account out.old))
         (outside (F.account files.new) (W.book live.new) (O.account out.new)) (E.account err.old) (E.account err.new) result }

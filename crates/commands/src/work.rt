@@ -36,7 +36,7 @@ pub fn work<F: Files, W: World, O: Sink>(
     live: &mut W,
     out: &mut O,
 ) -> Ending
-    requires { IsFresh (W.book live.old) }
+    requires { command.now.mode ≡ Mode.Serve → IsFresh (W.book live.old) }
     ensures works { Works (said command.now) (outside (F.account files.old) (W.book live.old) (O.account out.old))
         (outside (F.account files.new) (W.book live.new) (O.account out.new)) result }
     ensures live { Leaves W.same W.book (said command.now) (F.account files.old).told (status_of result) live.old live.new }

@@ -1,31 +1,33 @@
--- Moves that look at no ledger leave the same of what is a run's own; so a run that makes only such moves minds its own.
-use Rattle.std.proofs.Common.{◌≡◌, inl, inr, ℕ, ◌≤◌, nat_lt, ◌==◌, ◌&&◌, Bool, true, false, List, [], ◌∷◌, ◌++◌, if◌then◌else◌, refl, sym, ap, ◌∙◌, subst}
+-- A turn that is the same for all ledgers leaves the same of what is a run's own; so a run that takes only such turns minds its own.
+use Rattle.std.proofs.Common.{◌≡◌, inl, inr, ℕ, suc, ◌≤◌, nat_lt, ◌==◌, ◌&&◌, Bool, true, false, List, [], ◌∷◌, ◌++◌, Some, None, if◌then◌else◌, refl, sym, ap, ◌∙◌, subst, append_assoc, arith}
 use Rattle.std.specs.Prelude.{Option, not}
 use Rattle.resty_base.specs.declared.names.Ms.{Ms}
-use Rattle.uri_args.specs.declared.targets.Target.{Target}
-use Rattle.http_in.specs.declared.heads.Head.{Head}
 use Rattle.http_in.specs.declared.framing.BodyKind.TheVariants as kind
 use Rattle.strand_contract.specs.declared.turns.Place.{Place}
 use Rattle.strand_contract.specs.declared.turns.Place.TheVariants as place
+use Rattle.strand_contract.specs.declared.turns.Act.TheVariants as act
 use Rattle.strand_contract.specs.Actions.{Action, Dict, same_place}
 use Rattle.strand_contract.specs.Alone.{disarmed, without}
-use Rattle.strand_plans.specs.Questions.{Question}
-use Rattle.strand_plans.specs.Ledgers.{Ledger, has, has_number, empty_ledger}
-use Rattle.strand_plans.specs.Moves.{Move, Done, Unready, Send, Arm, Cancel, HangUp, Log, Set, Look, Ask, End, added_if, sends, with_sent, with_offer, with_thread, without_thread, with_deadline, without_deadline, hung_up, asked_of, perform}
-use Rattle.strand_plans.specs.Moves as move
+use Rattle.strand_plans.specs.Questions.{Question, asking_if}
+use Rattle.strand_plans.specs.Questions as question
+use Rattle.strand_plans.specs.Ledgers.{Ledger, has, has_number, wants_offer, empty_ledger}
+use Rattle.strand_plans.specs.Moves.{added_if, with_sent, with_offer, with_thread, without_thread, with_deadline, without_deadline, hung_up, asked_of}
 use Rattle.strand_plans.proofs.Places.{has-without}
 use Rattle.run_contract.specs.declared.turns.RunSeen.{RunSeen}
 use Rattle.run_contract.specs.declared.turns.RunSeen.TheVariants as seen
+use Rattle.run_contract.specs.declared.turns.RunAct.{RunAct}
+use Rattle.run_contract.specs.declared.turns.RunAct.TheVariants as made
 use Rattle.run_contract.specs.declared.turns.Said.TheVariants as said
-use Rattle.run_contract.specs.Runs.{Turn, RunPlan}
+use Rattle.run_contract.specs.Deeds as deed
+use Rattle.run_contract.specs.Deeds.{Deed, Turn, Asks, Nothing, Outside, Within, ledger_by, ledger_after, ledger_asking, made_if, made_by, made_after, made_asking, acts_made, taken}
+use Rattle.run_contract.specs.Runs.{RunPlan}
 use Rattle.run_contract.specs.Alike.{own_deadlines}
-use Rattle.run_contract.specs.Forms.{IsSock}
 use Rattle.run_contract.specs.StoredLaws.{not-below}
 use Rattle.run_contract.specs.Stored.{Stored, stored_plan, stored_turn, stored_answered}
-use Rattle.connection_plan.specs.Examples.{Echo, Reading, Fresh, Replied, Left, echo_plan, echo_begun, echo_turn, request, to}
+use Rattle.connection_plan.specs.Examples.{Echo, Fresh, Asked, Reading, Replied, Left, echo_plan, echo_turn, request, to}
 use Rattle.connection_plan.specs.Recalls.{recalls_plan}
-use Rattle.connection_laws.specs.Own.{IsLive, SameOwn, SameTurn, MindsItsOwn}
-use Rattle.connection_laws.specs.Examples.{IsBlind, NeverLooks}
+use Rattle.connection_laws.specs.Own.{IsLive, SameOwn, SameTurn, MindsItsOwn, but_offers}
+use Rattle.connection_laws.specs.Examples.{NeverLooks, tells_in_a_line, tells_in_a_question}
 use Rattle.connection_laws.proofs.Owns.{own-disarms, still-open}
 
 own-armed : (n at : ℕ) (ds : List (ℕ × ℕ)) → nat_lt n 2 ≡ false → own_deadlines (ds ++ (n, at) ∷ []) ≡ own_deadlines ds ++ (n, at) ∷ []
@@ -89,9 +91,8 @@ module _ {J : Type 0} (b c : Ledger J) (h : SameOwn b c) where
     sockets = λ j l. let e = h.sockets j l in record { sent = e.sent; taken = e.taken; put_off = e.put_off };
   }
 
-  hang-both : (q : Place) → IsSock q → SameOwn (hung_up q b) (hung_up q c)
-  hang-both place.Client s = absurd s
-  hang-both (place.Sock n) s = record {
+  hang-both : (n : ℕ) → SameOwn (hung_up (place.Sock n) b) (hung_up (place.Sock n) c)
+  hang-both n = record {
     threads = h.threads;
     armed = h.armed;
     count = h.count;
@@ -105,9 +106,8 @@ module _ {J : Type 0} (b c : Ledger J) (h : SameOwn b c) where
         | inr f ↦ inr f
       ]
 
-  send-both : (q : Place) (bytes : List ℕ) → IsSock q → SameOwn (with_offer q (with_sent q bytes b)) (with_offer q (with_sent q bytes c))
-  send-both place.Client bytes s = absurd s
-  send-both (place.Sock n) bytes s = record {
+  send-both : (n : ℕ) (bytes : List ℕ) → SameOwn (with_offer (place.Sock n) (with_sent (place.Sock n) bytes b)) (with_offer (place.Sock n) (with_sent (place.Sock n) bytes c))
+  send-both n bytes = record {
     threads = h.threads;
     armed = h.armed;
     count = h.count;
@@ -120,91 +120,211 @@ module _ {J : Type 0} (b c : Ledger J) (h : SameOwn b c) where
     };
   }
 
-module _ {J R : Type 0} where
-  -- what they leave: the same of what is the run's own, and the same run
-  pub blind-same : (m : Move J R) (b c : Ledger J) (r : R) → IsBlind m → SameOwn b c
-      → SameOwn (perform m b r).state.ledger (perform m c r).state.ledger × ((perform m b r).state.inner ≡ (perform m c r).state.inner)
-  blind-same Done b c r i h = (h, refl)
-  blind-same (move.Ready k m) b c r i h = blind-same m (with_thread k b) (with_thread k c) r i (ready-both b c h k)
-  blind-same (Unready k m) b c r i h = blind-same m (without_thread k b) (without_thread k c) r i (unready-both b c h k)
-  blind-same (Send q bytes m) b c r i h = blind-same m (with_offer q (with_sent q bytes b)) (with_offer q (with_sent q bytes c)) r i.1 (send-both b c h q bytes i.0)
-  blind-same (Arm n at m) b c r i h = blind-same m (with_deadline n at b) (with_deadline n at c) r i.1 (arm-both b c h n at i.0)
-  blind-same (Cancel n m) b c r i h = blind-same m (without_deadline n b) (without_deadline n c) r i.1 (cancel-both b c h n i.0)
-  blind-same (HangUp q m) b c r i h = blind-same m (hung_up q b) (hung_up q c) r i.1 (hang-both b c h q i.0)
-  blind-same (Log line m) b c r i h = blind-same m b c r i h
-  blind-same (Set f m) b c r i h = blind-same m b c (f r) i h
-  blind-same (Look go) b c r i h = absurd i
-  blind-same (Ask x) b c r i h = (ask-both b c h (asked_of x b) (asked_of x c), refl)
-  blind-same End b c r i h = absurd i
+high : (k : ℕ) → 2 ≤ suc (suc k)
+high k = omega arith
 
-  same-blindly : (t u : Turn J R) (b c : Ledger J) (r : R) → t ≡ u → IsBlind t.moves → SameOwn b c → SameTurn t u b c r
-  same-blindly t u b c r e i h = subst (λ (v : Turn J R). SameTurn t v b c r) e (let x = blind-same t.moves b c r i h in record { said = refl; run = x.1; ledger = x.0 })
+module _ {J : Type 0} where
+  pub deed-both : (d : Deed) (b c : Ledger J) → SameOwn b c → SameOwn (ledger_by d b) (ledger_by d c)
+  deed-both (deed.Ready k) b c h = ready-both b c h k
+  deed-both (deed.Unready k) b c h = unready-both b c h k
+  deed-both (deed.Arm k at) b c h = arm-both b c h (suc (suc k)) at (high k)
+  deed-both (deed.Cancel k) b c h = cancel-both b c h (suc (suc k)) (high k)
+  deed-both (deed.HangUp k) b c h = hang-both b c h k
+  deed-both (deed.Send k bytes) b c h = send-both b c h k bytes
+  deed-both (deed.Log line) b c h = h
+  deed-both (deed.Say w) b c h = h
+
+  deeds-both : (ds : List Deed) (b c : Ledger J) → SameOwn b c → SameOwn (ledger_after ds b) (ledger_after ds c)
+  deeds-both [] b c h = h
+  deeds-both (d ∷ ds) b c h = deeds-both ds (ledger_by d b) (ledger_by d c) (deed-both d b c h)
+
+  -- what is made known, but the offers
+
+  no-offer : (x y : Bool) (q : Place) (xs ys : List (RunAct J)) → but_offers xs ≡ but_offers ys → but_offers (made_if x (act.Offer q) ++ xs) ≡ but_offers (made_if y (act.Offer q) ++ ys)
+  no-offer true true q xs ys e = e
+  no-offer true false q xs ys e = e
+  no-offer false true q xs ys e = e
+  no-offer false false q xs ys e = e
+
+  one-made : (d : Deed) (b c : Ledger J) (xs ys : List (RunAct J)) → SameOwn b c → but_offers xs ≡ but_offers ys → but_offers (made_by d b ++ xs) ≡ but_offers (made_by d c ++ ys)
+  one-made (deed.Ready k) b c xs ys h e =
+      same (not (has_number k b.threads)) ∙ ap (λ (ts : List ℕ). but_offers (made_if (not (has_number k ts)) (act.Ready k) ++ ys)) h.threads
+    where
+      same : (x : Bool) → but_offers (made_if x (act.Ready k) ++ xs) ≡ but_offers (made_if x (act.Ready k) ++ ys)
+      same true = ap (λ zs. made.Act (act.Ready k) ∷ zs) e
+      same false = e
+  one-made (deed.HangUp k) b c xs ys h e =
+      same (has (place.Sock k) b.opened) ∙ ap (λ (x : Bool). but_offers (made_if x (act.HangUp (place.Sock k)) ++ ys)) (h.opened k)
+    where
+      same : (x : Bool) → but_offers (made_if x (act.HangUp (place.Sock k)) ++ xs) ≡ but_offers (made_if x (act.HangUp (place.Sock k)) ++ ys)
+      same true = ap (λ zs. made.Act (act.HangUp (place.Sock k)) ∷ zs) e
+      same false = e
+  one-made (deed.Send k bytes) b c xs ys h e =
+      no-offer (wants_offer (place.Sock k) (with_sent (place.Sock k) bytes b)) (wants_offer (place.Sock k) (with_sent (place.Sock k) bytes c)) (place.Sock k) xs ys e
+  one-made (deed.Unready k) b c xs ys h e = ap (λ zs. made.Act (act.Unready k) ∷ zs) e
+  one-made (deed.Arm k at) b c xs ys h e = ap (λ zs. made.Act (act.Arm (suc (suc k)) at) ∷ zs) e
+  one-made (deed.Cancel k) b c xs ys h e = ap (λ zs. made.Act (act.Cancel (suc (suc k))) ∷ zs) e
+  one-made (deed.Log line) b c xs ys h e = ap (λ zs. made.Act (act.Log line) ∷ zs) e
+  one-made (deed.Say w) b c xs ys h e = ap (λ zs. made.Say w ∷ zs) e
+
+  all-made : (ds : List Deed) (b c : Ledger J) (xs ys : List (RunAct J)) → SameOwn b c → but_offers xs ≡ but_offers ys → but_offers (made_after ds b ++ xs) ≡ but_offers (made_after ds c ++ ys)
+  all-made [] b c xs ys h e = e
+  all-made (d ∷ ds) b c xs ys h e =
+      ap but_offers (append_assoc (made_by d b) (made_after ds (ledger_by d b)) xs)
+      ∙ one-made d b c (made_after ds (ledger_by d b) ++ xs) (made_after ds (ledger_by d c) ++ ys) h (all-made ds (ledger_by d b) (ledger_by d c) xs ys (deed-both d b c h) e)
+      ∙ ap but_offers (sym (append_assoc (made_by d c) (made_after ds (ledger_by d c)) ys))
+
+  asked-same : (x : Question J) (b c : Ledger J) → SameOwn b c → asked_of x b ≡ asked_of x c
+  asked-same (question.Keep k key idle size) b c h = ap (λ (o : Bool). if o then Some (question.Keep k key idle size) else None) (h.opened k)
+  asked-same (question.Dict zone call) b c h = refl
+  asked-same (question.Take key) b c h = refl
+  asked-same (question.Dial host port) b c h = refl
+  asked-same (question.Timer at job) b c h = refl
+
+  asks-same : (a : Asks J) (b c : Ledger J) → SameOwn b c → made_asking a b ≡ made_asking a c
+  asks-same Nothing b c h = refl
+  asks-same (Within q) b c h = refl
+  asks-same (Outside x) b c h = ap (λ (o : Option (Question J)). acts_made (asking_if o)) (asked-same x b c h)
+
+  asking-both : (a : Asks J) (b c : Ledger J) → SameOwn b c → SameOwn (ledger_asking a b) (ledger_asking a c)
+  asking-both Nothing b c h = h
+  asking-both (Within q) b c h = h
+  asking-both (Outside x) b c h = ask-both b c h (asked_of x b) (asked_of x c)
+
+  turn-both : {R : Type 0} (t : Turn J R) (b c : Ledger J) → SameOwn b c → SameTurn t t b c
+  turn-both t b c h =
+      let g = deeds-both t.does b c h in record {
+        made = all-made t.does b c (made_asking t.asks (ledger_after t.does b)) (made_asking t.asks (ledger_after t.does c)) h (ap but_offers (asks-same t.asks (ledger_after t.does b) (ledger_after t.does c) g));
+        asks = refl;
+        run = refl;
+        ledger = asking-both t.asks (ledger_after t.does b) (ledger_after t.does c) g;
+      }
+
+module _ {J R : Type 0} where
+  same-turn : (t u : Turn J R) (b c : Ledger J) → t ≡ u → SameOwn b c → SameTurn t u b c
+  same-turn t u b c e h = subst (λ (v : Turn J R). SameTurn t v b c) e (turn-both t b c h)
 
   pub never-looks-minds : (p : RunPlan J R) → NeverLooks p → MindsItsOwn p
   never-looks-minds p h = record {
-    begins = λ now head target b c same. same-blindly (p.begun now head target b) (p.begun now head target c) b c p.unborn (h.begins now head target b c) (h.begins_blind now head target b) same;
-    turns = λ now s b c r same. same-blindly (p.turn now s b r) (p.turn now s c r) b c r (h.turns now s b c r) (h.turns_blind now s b r) same;
-    answers = λ now x b c r same. same-blindly (p.answered now x b r) (p.answered now x c r) b c r (h.answers now x b c r) (h.answers_blind now x b r) same;
+    begins = λ now head target b c same. same-turn (p.begun now head target b) (p.begun now head target c) b c (h.begins now head target b c) same;
+    begins_job = λ now premature job b c same. same-turn (p.begun_job now premature job b) (p.begun_job now premature job c) b c (h.begins_job now premature job b c) same;
+    turns = λ now s b c r same. same-turn (p.turn now s b r) (p.turn now s c r) b c (h.turns now s b c r) same;
+    answers = λ now x b c r same. same-turn (p.answered now x b r) (p.answered now x c r) b c (h.answers now x b c r) same;
   }
 
 -- ---- runs that do
 
 module _ {J : Type 0} (key otherwise : List ℕ) where
-  stored-turns : (now : ℕ) (s : RunSeen) (b c : Ledger J) (r : Stored) → (stored_turn key now s b r ≡ stored_turn key now s c r) × IsBlind (stored_turn key now s b r).moves
-  stored-turns now (seen.Run k) b c r = (refl, tt)
-  stored-turns now seen.ClientGone b c r = (refl, tt)
-  stored-turns now s b c r = (refl, tt)
+  stored-turns : (now : ℕ) (s : RunSeen) (b c : Ledger J) (r : Stored) → stored_turn key now s b r ≡ stored_turn key now s c r
+  stored-turns now (seen.Run k) b c r = refl
+  stored-turns now seen.ClientGone b c r = refl
+  stored-turns now s b c r = refl
 
-  stored-answers : (now : ℕ) (x : Action J) (b c : Ledger J) (r : Stored) → (stored_answered otherwise now x b r ≡ stored_answered otherwise now x c r) × IsBlind (stored_answered otherwise now x b r).moves
-  stored-answers now (Dict zone call given) b c r = (refl, tt)
-  stored-answers now x b c r = (refl, tt)
+  stored-answers : (now : ℕ) (x : Action J) (b c : Ledger J) (r : Stored) → stored_answered otherwise now x b r ≡ stored_answered otherwise now x c r
+  stored-answers now (Dict zone call given) b c r = refl
+  stored-answers now x b c r = refl
 
 pub stored-never-looks : {J : Type 0} (name key otherwise : List ℕ) → NeverLooks {J = J} (stored_plan name key otherwise)
 stored-never-looks name key otherwise = record {
   begins = λ now head target b c. refl;
-  begins_blind = λ now head target b. tt;
-  turns = λ now s b c r. (stored-turns key otherwise now s b c r).0;
-  turns_blind = λ now s b r. (stored-turns key otherwise now s b b r).1;
-  answers = λ now x b c r. (stored-answers key otherwise now x b c r).0;
-  answers_blind = λ now x b r. (stored-answers key otherwise now x b b r).1;
+  begins_job = λ now premature job b c. refl;
+  turns = λ now s b c r. stored-turns key otherwise now s b c r;
+  answers = λ now x b c r. stored-answers key otherwise now x b c r;
 }
 
-echo-begins : (J : Type 0) (reads : Bool) (head : Head) (target : Target) → IsBlind (echo_begun {J = J} reads head target).moves
-echo-begins J true head target = tt
-echo-begins J false head target = tt
-
-echo-turns : {J : Type 0} (now : ℕ) (s : RunSeen) (b c : Ledger J) (r : Echo) → (echo_turn now s b r ≡ echo_turn now s c r) × IsBlind (echo_turn now s b r).moves
-echo-turns now (seen.Body content waited) b c (Reading keep) = (refl, tt)
-echo-turns now (seen.Body content waited) b c Fresh = (refl, tt)
-echo-turns now (seen.Body content waited) b c Replied = (refl, tt)
-echo-turns now (seen.Body content waited) b c Left = (refl, tt)
-echo-turns now (seen.BodyRefused code) b c r = (refl, tt)
-echo-turns now seen.ClientGone b c r = (refl, tt)
-echo-turns now (seen.Run k) b c r = (refl, tt)
-echo-turns now (seen.Due n) b c r = (refl, tt)
-echo-turns now seen.AllTaken b c r = (refl, tt)
-echo-turns now (seen.Sock k s) b c r = (refl, tt)
+echo-turns : {J : Type 0} (now : ℕ) (s : RunSeen) (b c : Ledger J) (r : Echo) → echo_turn now s b r ≡ echo_turn now s c r
+echo-turns now s b c Fresh = on s
+  where
+    on : (s : RunSeen) → echo_turn now s b Fresh ≡ echo_turn now s c Fresh
+    on (seen.Run k) = refl
+    on (seen.Due n) = refl
+    on (seen.Body content waited) = refl
+    on (seen.BodyRefused code) = refl
+    on seen.AllTaken = refl
+    on seen.NotYet = refl
+    on seen.ClientEnded = refl
+    on seen.ClientGone = refl
+    on (seen.Sock k x) = refl
+echo-turns now s b c (Asked keep) = on s
+  where
+    on : (s : RunSeen) → echo_turn now s b (Asked keep) ≡ echo_turn now s c (Asked keep)
+    on (seen.Run k) = refl
+    on (seen.Due n) = refl
+    on (seen.Body content waited) = refl
+    on (seen.BodyRefused code) = refl
+    on seen.AllTaken = refl
+    on seen.NotYet = refl
+    on seen.ClientEnded = refl
+    on seen.ClientGone = refl
+    on (seen.Sock k x) = refl
+echo-turns now s b c (Reading keep) = on s
+  where
+    on : (s : RunSeen) → echo_turn now s b (Reading keep) ≡ echo_turn now s c (Reading keep)
+    on (seen.Run k) = refl
+    on (seen.Due n) = refl
+    on (seen.Body content waited) = refl
+    on (seen.BodyRefused code) = refl
+    on seen.AllTaken = refl
+    on seen.NotYet = refl
+    on seen.ClientEnded = refl
+    on seen.ClientGone = refl
+    on (seen.Sock k x) = refl
+echo-turns now s b c Replied = on s
+  where
+    on : (s : RunSeen) → echo_turn now s b Replied ≡ echo_turn now s c Replied
+    on (seen.Run k) = refl
+    on (seen.Due n) = refl
+    on (seen.Body content waited) = refl
+    on (seen.BodyRefused code) = refl
+    on seen.AllTaken = refl
+    on seen.NotYet = refl
+    on seen.ClientEnded = refl
+    on seen.ClientGone = refl
+    on (seen.Sock k x) = refl
+echo-turns now s b c Left = on s
+  where
+    on : (s : RunSeen) → echo_turn now s b Left ≡ echo_turn now s c Left
+    on (seen.Run k) = refl
+    on (seen.Due n) = refl
+    on (seen.Body content waited) = refl
+    on (seen.BodyRefused code) = refl
+    on seen.AllTaken = refl
+    on seen.NotYet = refl
+    on seen.ClientEnded = refl
+    on seen.ClientGone = refl
+    on (seen.Sock k x) = refl
 
 pub echo-never-looks : {J : Type 0} (reads : Bool) → NeverLooks {J = J} (echo_plan reads)
 echo-never-looks reads = record {
   begins = λ now head target b c. refl;
-  begins_blind = λ now head target b. echo-begins _ reads head target;
-  turns = λ now s b c r. (echo-turns now s b c r).0;
-  turns_blind = λ now s b r. (echo-turns now s b b r).1;
+  begins_job = λ now premature job b c. refl;
+  turns = λ now s b c r. echo-turns now s b c r;
   answers = λ now x b c r. refl;
-  answers_blind = λ now x b r. tt;
 }
 
--- ---- and one that doesn't
+-- ---- and those that don't
 
 -- a ledger after which a byte was sent to the client
-after_byte : {J : Type 0} → Ledger J
+abbrev after_byte : {J : Type 0} → Ledger J
 after_byte = record empty_ledger { sent = λ q. if same_place q place.Client then 1 ∷ [] else [] }
 
+same-but-byte : {J : Type 0} → SameOwn {J = J} empty_ledger after_byte
+same-but-byte = record { threads = refl; armed = refl; count = refl; opened = λ k. refl; sockets = λ k l. record { sent = refl; taken = refl; put_off = refl } }
+
 pub recalling-does-not : {J : Type 0} → MindsItsOwn {J = J} recalls_plan → ⊥
-unfolding after_byte
 recalling-does-not {J} h =
-    let same : SameOwn {J = J} empty_ledger after_byte = record { threads = refl; armed = refl; count = refl; opened = λ k. refl; sockets = λ k l. record { sent = refl; taken = refl; put_off = refl } } in
-    let e : said.Send (1 ∷ []) ∷ said.Ended false ∷ said.Over ∷ [] ≡ said.Send (1 ∷ 1 ∷ []) ∷ said.Ended false ∷ said.Over ∷ [] =
-    (h.begins 0 (request kind.Nothing false [] []) (to []) empty_ledger after_byte same).said in
+    let words : List ℕ → List (RunAct J) = λ bytes. made.Say (said.Send bytes) ∷ made.Say (said.Ended false) ∷ made.Say said.Over ∷ [] in
+    let e : words (1 ∷ []) ≡ words (1 ∷ 1 ∷ []) = (h.begins 0 (request kind.Nothing false [] []) (to []) empty_ledger after_byte same-but-byte).made in
+    cc
+
+pub telling-in-a-line-does-not : {J : Type 0} → MindsItsOwn {J = J} tells_in_a_line → ⊥
+telling-in-a-line-does-not {J} h =
+    let acts : List ℕ → List (RunAct J) = λ line. made.Act (act.Log line) ∷ made.Act (act.Ready 0) ∷ [] in
+    let e : acts [] ≡ acts (1 ∷ []) = (h.begins 0 (request kind.Nothing false [] []) (to []) empty_ledger after_byte same-but-byte).made in
+    cc
+
+pub telling-in-a-question-does-not : {J : Type 0} → MindsItsOwn {J = J} tells_in_a_question → ⊥
+telling-in-a-question-does-not {J} h =
+    let asks : List ℕ → List (RunAct J) = λ key. made.Act (act.Take key) ∷ [] in
+    let e : asks [] ≡ asks (1 ∷ []) = (h.begins 0 (request kind.Nothing false [] []) (to []) empty_ledger after_byte same-but-byte).made in
     cc

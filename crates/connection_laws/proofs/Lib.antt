@@ -1,4 +1,5 @@
 pub mod Owns
+pub mod Leaving
 pub mod Saying
 pub mod Places
 pub mod Going
@@ -7,3 +8,6 @@ pub mod Coming
 pub mod Executing
 pub mod Said
 pub mod Blind
+pub mod Hanging
+pub mod Numbering
+pub mod Written

@@ -19,7 +19,7 @@ pub same-reply : {J R : Type 0} (site : Service J R) (es fs : List (LocalAction 
     → (x : IsSaidAlone es site older head target reply) (y : IsSaidAlone fs site others head target other) → LearnTheSame {site = site} x y → reply ≡ other
 same-reply site es fs older others head target reply other x y same =
     x.said
-    ∙ ap (λ t. reply_alone site.runs t x.continues x.news) (same-beginning x.beginning y.beginning (x.asked.0 ∙ sym y.asked.0) (x.asked.1 ∙ sym y.asked.1) same.0 same.1)
-    ∙ ap (λ c. reply_alone site.runs y.beginning c x.news) same.3
-    ∙ ap (λ ns. reply_alone site.runs y.beginning y.continues ns) same.2
+    ∙ ap (λ t. reply_alone site.runs t x.continues x.of.news) (same-beginning x.of.beginning y.of.beginning (x.of.asked.0 ∙ sym y.of.asked.0) (x.of.asked.1 ∙ sym y.of.asked.1) same.0 same.1)
+    ∙ ap (λ c. reply_alone site.runs y.of.beginning c x.of.news) same.3
+    ∙ ap (λ ns. reply_alone site.runs y.of.beginning y.continues ns) same.2
     ∙ sym y.said

@@ -1,42 +1,62 @@
--- What a run says becomes the reply to its request, while its client is there; and nothing of it does once that is gone.
-use Rattle.std.proofs.Common.{◌≡◌, ℕ, ◌&&◌, Bool, true, false, List, [], ◌∷◌, ◌++◌, if◌then◌else◌, refl, sym, ap, ◌∙◌, subst, append-nil, append_assoc}
+-- What a run says becomes the reply to its request, while its client is there; nothing of it does once that is gone; and its lines are logged in either case.
+use Rattle.std.proofs.Common.{inl, inr, ◌⊎◌, ◌≡◌, ℕ, ◌&&◌, Bool, true, false, List, [], ◌∷◌, ◌++◌, if◌then◌else◌, refl, sym, ap, ◌∙◌, subst, append-nil, append_assoc}
 use Rattle.uri_args.specs.declared.targets.Target.{Target}
 use Rattle.http_in.specs.declared.heads.Head.{Head}
 use Rattle.client_line.specs.declared.requests.LineOut.TheVariants as out
+use Rattle.client_line.specs.Records.{Came}
 use Rattle.strand_contract.specs.declared.turns.Place.TheVariants as place
 use Rattle.strand_plans.specs.Ledgers.{Ledger, has_number, numbers}
-use Rattle.strand_plans.specs.Moves.{Move, Done, Cancel, State, with_sent, with_offer, without_deadline, with_deadline, perform}
+use Rattle.strand_plans.specs.Moves.{Move, Done, Cancel, with_sent, with_offer, without_deadline, with_deadline}
 use Rattle.strand_plans.specs.Moves as move
 use Rattle.run_contract.specs.declared.turns.Said.{Said}
 use Rattle.run_contract.specs.declared.turns.Said.TheVariants as said
-use Rattle.run_contract.specs.Runs.{says_over}
-use Rattle.connection_plan.specs.Clients.{Reply, Client, Exchange, Unsent, Begun, Whole, exchange, with_more, begun}
+use Rattle.run_contract.specs.Deeds.{Deed, Ready, Unready, Arm, HangUp, Send, Log, Say, ledger_by, ledger_after, says_over}
+use Rattle.run_contract.specs.Deeds as deed
+use Rattle.connection_plan.specs.Clients.{Stage, Reply, Client, Exchange, Unsent, Begun, Whole, exchange, with_more, with_times, begun}
 use Rattle.connection_plan.specs.Clients as stage
 use Rattle.connection_plan.specs.Services.{Service, Both}
 use Rattle.connection_plan.specs.Timers.{Timer, number_of, time_of, later}
 use Rattle.connection_plan.specs.Timers as timer
-use Rattle.connection_plan.specs.Turns.{is_there, change, send, begin_timer, end_timer, continue_reply, let_send, awaits_body, await_body, says}
-use Rattle.connection_laws.specs.Alone.{bytes_said, let_first, MayWaitForBody}
+use Rattle.connection_plan.specs.Lifts.{lifted}
+use Rattle.connection_plan.specs.Turns.{is_there, change, send, begin_timer, continue_reply, let_send, wait_more, says}
+use Rattle.connection_plan.proofs.Lifted.{SameRun, same-run-refl, same-run-trans, deed-same}
+use Rattle.connection_plan.proofs.Steps.{stage_word, stage_did, own-number, armed-same, cancelled-same, sent-to-client-same}
+use Rattle.connection_plan.proofs.OwnMoves.{deed-leaves-client}
+use Rattle.connection_laws.specs.Alone.{words_of, lines_of, is_over, bytes_said, let_first, MayWaitForBody}
+use Rattle.connection_laws.proofs.Leaving.{Left, here_at, left}
 
 -- ---- bytes of words
 
-pub bytes-append : (xs ys : List Said) → says_over xs ≡ false → bytes_said (xs ++ ys) ≡ bytes_said xs ++ bytes_said ys
-bytes-append [] ys h = refl
-bytes-append (said.Send bytes ∷ xs) ys h = ap (λ zs. bytes ++ zs) (bytes-append xs ys h) ∙ sym (append_assoc bytes (bytes_said xs) (bytes_said ys))
-bytes-append (said.Over ∷ xs) ys h = absurd (let e : true ≡ false = h in cc)
-bytes-append (said.WantsBody max ∷ xs) ys h = bytes-append xs ys h
-bytes-append (said.WantsNoBody ∷ xs) ys h = bytes-append xs ys h
-bytes-append (said.WantsAllTaken ∷ xs) ys h = bytes-append xs ys h
-bytes-append (said.Ended closes ∷ xs) ys h = bytes-append xs ys h
+pub bytes-append : (xs ys : List Said) → bytes_said (xs ++ ys) ≡ bytes_said xs ++ bytes_said ys
+bytes-append [] ys = refl
+bytes-append (said.Send bytes ∷ xs) ys = ap (λ zs. bytes ++ zs) (bytes-append xs ys) ∙ sym (append_assoc bytes (bytes_said xs) (bytes_said ys))
+bytes-append (said.Over ∷ xs) ys = bytes-append xs ys
+bytes-append (said.WantsNoBody ∷ xs) ys = bytes-append xs ys
+bytes-append (said.Times times ∷ xs) ys = bytes-append xs ys
+bytes-append (said.Ended closes ∷ xs) ys = bytes-append xs ys
 
-pub over-append : (xs ys : List Said) → says_over xs ≡ false → says_over (xs ++ ys) ≡ says_over ys
+pub over-append : (xs ys : List Said) → is_over xs ≡ false → is_over (xs ++ ys) ≡ is_over ys
 over-append [] ys h = refl
 over-append (said.Over ∷ xs) ys h = absurd (let e : true ≡ false = h in cc)
 over-append (said.Send bytes ∷ xs) ys h = over-append xs ys h
-over-append (said.WantsBody max ∷ xs) ys h = over-append xs ys h
 over-append (said.WantsNoBody ∷ xs) ys h = over-append xs ys h
-over-append (said.WantsAllTaken ∷ xs) ys h = over-append xs ys h
+over-append (said.Times times ∷ xs) ys h = over-append xs ys h
 over-append (said.Ended closes ∷ xs) ys h = over-append xs ys h
+
+pub over-words : (ds : List Deed) → is_over (words_of ds) ≡ says_over ds
+over-words [] = refl
+over-words (Say said.Over ∷ ds) = refl
+over-words (Say (said.Send bytes) ∷ ds) = over-words ds
+over-words (Say said.WantsNoBody ∷ ds) = over-words ds
+over-words (Say (said.Times times) ∷ ds) = over-words ds
+over-words (Say (said.Ended closes) ∷ ds) = over-words ds
+over-words (Ready k ∷ ds) = over-words ds
+over-words (Unready k ∷ ds) = over-words ds
+over-words (Arm k at ∷ ds) = over-words ds
+over-words (deed.Cancel k ∷ ds) = over-words ds
+over-words (HangUp k ∷ ds) = over-words ds
+over-words (Send k bytes ∷ ds) = over-words ds
+over-words (Log line ∷ ds) = over-words ds
 
 begun-sent : (r : Reply) → begun r ≡ Unsent → ⊥
 begun-sent Unsent h = let e : Begun ≡ Unsent = h in cc
@@ -60,11 +80,11 @@ says-as W head target older xs ys c e h = record {
 }
 
 -- bytes are sent
-says-more : (W : Type 0) (head : Head) (target : Target) (older : List Exchange) (xs : List Said) (bytes : List ℕ) (c : Client) → says_over xs ≡ false → Says W head target older xs c
+says-more : (W : Type 0) (head : Head) (target : Target) (older : List Exchange) (xs : List Said) (bytes : List ℕ) (c : Client) → Says W head target older xs c
     → Says W head target older (xs ++ said.Send bytes ∷ []) (record c { reply = begun c.reply; exchanges = with_more bytes c.exchanges })
-says-more W head target older xs bytes c over h =
+says-more W head target older xs bytes c h =
     let first = let_first (c.waited && c.expects) in
-    let more : bytes_said xs ++ bytes ≡ bytes_said (xs ++ said.Send bytes ∷ []) = ap (λ bs. bytes_said xs ++ bs) (sym (append-nil bytes)) ∙ sym (bytes-append xs (said.Send bytes ∷ []) over) in
+    let more : bytes_said xs ++ bytes ≡ bytes_said (xs ++ said.Send bytes ∷ []) = ap (λ bs. bytes_said xs ++ bs) (sym (append-nil bytes)) ∙ sym (bytes-append xs (said.Send bytes ∷ [])) in
     record {
       newest = ap (with_more bytes) h.newest ∙ ap (λ bs. exchange (out.Request head target) bs ∷ older) (append_assoc first (bytes_said xs) bytes ∙ ap (λ bs. first ++ bs) more);
       unsent = λ u. absurd (begun-sent c.reply u);
@@ -83,170 +103,238 @@ pub right-of : (a b : Bool) → (a && b) ≡ true → b ≡ true
 right-of true b h = h
 right-of false b h = absurd (let e : false ≡ true = h in cc)
 
+-- ---- the wait for more of a body
+
 module _ {J R : Type 0} (site : Service J R) (now : ℕ) where
-  there-if : (b : Ledger J) (s : Both R) → awaits_body site now b s ≡ true → is_there b ≡ true
-  there-if b s h = let body = (site.runs.waits s.run).body in by body (is_there b) _ _ h
-    where
-      by : (x y z w : Bool) → (x && y && z && w) ≡ true → y ≡ true
-      by x y z w h = right-of x y (left-of (x && y) z (left-of (x && y && z) w h))
+  -- from one state to another: a client that is there may have been let send its body
+  pub record IsWaited (b : Ledger J) (s : Both R) (d : Ledger J) (t : Both R) : Type 0 where
+    pub same : SameRun b d
+    pub there : is_there d ≡ is_there b
+    pub run : t.run ≡ s.run
+    pub stage : t.client.stage ≡ s.client.stage
+    pub came : t.client.came ≡ s.client.came
+    pub exchanges : (t.client.exchanges ≡ s.client.exchanges) ⊎ ((is_there b ≡ true) × (t.client.exchanges ≡ with_more continue_reply s.client.exchanges))
+    pub says : (head : Head) (target : Target) (older : List Exchange) (xs : List Said) → is_there b ≡ true → Says (MayWaitForBody site.runs) head target older xs s.client
+        → Says (MayWaitForBody site.runs) head target older xs t.client
 
-  waits-if : (b : Ledger J) (s : Both R) → awaits_body site now b s ≡ true → (site.runs.waits s.run).body ≡ true
-  waits-if b s h = by (site.runs.waits s.run).body (is_there b) _ _ h
-    where
-      by : (x y z w : Bool) → (x && y && z && w) ≡ true → x ≡ true
-      by x y z w h = left-of x y (left-of (x && y) z (left-of (x && y && z) w h))
-
-  module _ (head : Head) (target : Target) (older : List Exchange) (P : State J (Both R) → Type 0) where
-    -- from where this is said of a client that is there
-    abbrev From : List Said → Move J (Both R) → Type 0
-    From xs m = (b : Ledger J) (s : Both R) → is_there b ≡ true → Says (MayWaitForBody site.runs) head target older xs s.client → P (perform m b s).state
-
-    end-from : (xs : List Said) (t : Timer) (m : Move J (Both R)) → From xs m → From xs (end_timer site now t m)
-    end-from xs t m f b s there h = by (has_number (number_of t) (numbers b.armed))
+  module _ (P : Left J (Both R) → Type 0) where
+    -- where it waits for a 100 reply, and nothing was sent
+    let-leads : (m : Move J (Both R)) (b : Ledger J) (s : Both R) (ls : List (List ℕ)) → MayWaitForBody site.runs → ((d : Ledger J) (t : Both R) → IsWaited b s d t → P (left m d t ls))
+        → (r : Reply) → s.client.reply ≡ r → P (left (let_send site now s.client r m) b s ls)
+    let-leads m b s ls may f r e = at r e
       where
-        by : (c : Bool) → P (perform (if c then Cancel (number_of t) m else m) b s).state
-        by true = f (without_deadline (number_of t) b) s there h
-        by false = f b s there h
-
-    sends-from : (xs : List Said) (bytes : List ℕ) (m : Move J (Both R)) → says_over xs ≡ false → From (xs ++ said.Send bytes ∷ []) m → (b : Ledger J) (s : Both R) → is_there b ≡ true
-        → Says (MayWaitForBody site.runs) head target older xs s.client → P (perform (send site now bytes m) b (record s { client = record s.client { reply = begun s.client.reply } })).state
-    sends-from xs bytes m over f b s there h = by (is_there b) there
-      where
-        t : Both R
-        t = record s { client = record s.client { reply = begun s.client.reply } }
-
-        by : (c : Bool) → c ≡ true → P (perform (if c then change (λ c. record c { exchanges = with_more bytes c.exchanges }) (move.Send place.Client bytes m) else m) b t).state
-        by true e = f (with_offer place.Client (with_sent place.Client bytes b)) (record t { client = record t.client { exchanges = with_more bytes t.client.exchanges } }) there
-            (says-more (MayWaitForBody site.runs) head target older xs bytes s.client over h)
-        by false e = absurd (let n : false ≡ true = e in cc)
-
-    let-from : (xs : List Said) (m : Move J (Both R)) → From xs m → (b : Ledger J) (s : Both R) → is_there b ≡ true → Says (MayWaitForBody site.runs) head target older xs s.client
-        → MayWaitForBody site.runs → (r : Reply) → s.client.reply ≡ r → P (perform (let_send site now s.client r m) b s).state
-    let-from xs m f b s there h may Begun e = f b s there h
-    let-from xs m f b s there h may (Whole closes) e = f b s there h
-    let-from xs m f b s there h may Unsent e = by s.client.waited refl
-      where
-        none : bytes_said xs ≡ []
-        none = h.unsent e
+        as_it_was : P (left m b s ls)
+        as_it_was = f b s (record { same = same-run-refl b; there = refl; run = refl; stage = refl; came = refl; exchanges = inl refl; says = λ head target older xs l h. h })
 
         waiting : Both R
         waiting = record s { client = record s.client { waited = true } }
 
-        first : s.client.waited ≡ false → s.client.exchanges ≡ exchange (out.Request head target) (bytes_said xs) ∷ older
-        first w = h.newest ∙ ap (λ (x : Bool). exchange (out.Request head target) (let_first (x && s.client.expects) ++ bytes_said xs) ∷ older) w
+        first : (head : Head) (target : Target) (older : List Exchange) (xs : List Said) → Says (MayWaitForBody site.runs) head target older xs s.client → s.client.waited ≡ false
+            → s.client.exchanges ≡ exchange (out.Request head target) (bytes_said xs) ∷ older
+        first head target older xs h w = h.newest ∙ ap (λ (x : Bool). exchange (out.Request head target) (let_first (x && s.client.expects) ++ bytes_said xs) ∷ older) w
 
-        sent : s.client.expects ≡ true → s.client.waited ≡ false → (c : Bool) → c ≡ true
-            → P (perform (if c then change (λ c. record c { exchanges = with_more continue_reply c.exchanges }) (move.Send place.Client continue_reply m) else m) b waiting).state
-        sent x w true e = f (with_offer place.Client (with_sent place.Client continue_reply b)) (record waiting { client = record waiting.client { exchanges = with_more continue_reply waiting.client.exchanges } }) there (record {
-          newest = ap (with_more continue_reply) (first w) ∙ ap (λ bs. exchange (out.Request head target) bs ∷ older) (let-on (bytes_said xs) s.client.expects none x);
-          unsent = h.unsent;
-          expects = h.expects;
-          waits = λ k. may;
+        sent : s.client.reply ≡ Unsent → s.client.expects ≡ true → s.client.waited ≡ false → (c : Bool) → is_there b ≡ c
+            → P (left (if c then change (λ c. record c { exchanges = with_more continue_reply c.exchanges }) (move.Send place.Client continue_reply m) else m) b waiting ls)
+        sent e x w true l = f (with_offer place.Client (with_sent place.Client continue_reply b)) (record waiting { client = record waiting.client { exchanges = with_more continue_reply waiting.client.exchanges } }) (record {
+          same = sent-to-client-same continue_reply b;
+          there = refl;
+          run = refl;
+          stage = refl;
+          came = refl;
+          exchanges = inr (l, refl);
+          says = λ head target older xs l h. record {
+            newest = ap (with_more continue_reply) (first head target older xs h w) ∙ ap (λ bs. exchange (out.Request head target) bs ∷ older) (let-on (bytes_said xs) s.client.expects (h.unsent e) x);
+            unsent = h.unsent;
+            expects = h.expects;
+            waits = λ k. may;
+          };
         })
-        sent x w false e = absurd (let n : false ≡ true = e in cc)
-
-        asked : s.client.waited ≡ false → (x : Bool) → s.client.expects ≡ x → P (perform (if x then send site now continue_reply m else m) b waiting).state
-        asked w true x = sent x w (is_there b) there
-        asked w false x = f b waiting there (record {
-          newest = first w ∙ ap (λ (e : Bool). exchange (out.Request head target) (let_first e ++ bytes_said xs) ∷ older) (sym x);
-          unsent = h.unsent;
-          expects = h.expects;
-          waits = λ k. may;
+        sent e x w false l = f b waiting (record {
+          same = same-run-refl b;
+          there = refl;
+          run = refl;
+          stage = refl;
+          came = refl;
+          exchanges = inl refl;
+          says = λ head target older xs k h. absurd (let n : false ≡ true = sym l ∙ k in cc);
         })
 
-        by : (w : Bool) → s.client.waited ≡ w → P (perform (if w then m else change (λ c. record c { waited = true }) (if s.client.expects then send site now continue_reply m else m)) b s).state
-        by true w = f b s there h
-        by false w = asked w s.client.expects refl
+        asked : s.client.reply ≡ Unsent → s.client.waited ≡ false → (x : Bool) → s.client.expects ≡ x → P (left (if x then send site now continue_reply m else m) b waiting ls)
+        asked e w true x = sent e x w (is_there b) refl
+        asked e w false x = f b waiting (record {
+          same = same-run-refl b;
+          there = refl;
+          run = refl;
+          stage = refl;
+          came = refl;
+          exchanges = inl refl;
+          says = λ head target older xs l h. record {
+            newest = first head target older xs h w ∙ ap (λ (e : Bool). exchange (out.Request head target) (let_first e ++ bytes_said xs) ∷ older) (sym x);
+            unsent = h.unsent;
+            expects = h.expects;
+            waits = λ k. may;
+          };
+        })
 
-    pub await-from : (xs : List Said) (m : Move J (Both R)) → From xs m → From xs (await_body site now m)
-    await-from xs m f b s there h = by (awaits_body site now b s) refl
-      where
-        by : (c : Bool) → awaits_body site now b s ≡ c → P (perform (if c then let_send site now s.client s.client.reply (begin_timer site now timer.Body m) else m) b s).state
-        by true e = let-from xs (begin_timer site now timer.Body m) (λ c t k g. f _ t k g) b s there h (s.run, waits-if b s e) s.client.reply refl
-        by false e = f b s there h
+        by : s.client.reply ≡ Unsent → (w : Bool) → s.client.waited ≡ w
+            → P (left (if w then m else change (λ c. record c { waited = true }) (if s.client.expects then send site now continue_reply m else m)) b s ls)
+        by e true w = as_it_was
+        by e false w = asked e w s.client.expects refl
 
-  module _ (head : Head) (target : Target) (older : List Exchange) where
-    -- all of it was said, and the client is there
-    abbrev pub IsSaid : List Said → State J (Both R) → Type 0
-    IsSaid xs st = (is_there st.ledger ≡ true) × Says (MayWaitForBody site.runs) head target older xs st.inner.client
+        at : (r : Reply) → s.client.reply ≡ r → P (left (let_send site now s.client r m) b s ls)
+        at Begun e = as_it_was
+        at (Whole closes) e = as_it_was
+        at Unsent e = by e s.client.waited refl
 
-    onward : (w : Said) (more xs : List Said) (st : State J (Both R)) → IsSaid ((xs ++ w ∷ []) ++ more) st → IsSaid (xs ++ w ∷ more) st
-    onward w more xs st h = subst (λ (ys : List Said). IsSaid ys st) (append_assoc xs (w ∷ []) more) h
+    pub wait-leads : (m : Move J (Both R)) (b : Ledger J) (s : Both R) (ls : List (List ℕ)) → MayWaitForBody site.runs → ((d : Ledger J) (t : Both R) → IsWaited b s d t → P (left m d t ls))
+        → P (left (wait_more site now s.client m) b s ls)
+    wait-leads m b s ls may f = let-leads (begin_timer site now timer.Body m) b s ls may
+        (λ d t x.
+        let due = later now (time_of site.default_times t.client.times timer.Body) in
+        let e = with_deadline (number_of timer.Body) due d in
+        f e t (record {
+          same = same-run-trans b d e x.same (armed-same (number_of timer.Body) due d (own-number timer.Body));
+          there = x.there;
+          run = x.run;
+          stage = x.stage;
+          came = x.came;
+          exchanges = x.exchanges;
+          says = x.says;
+        })) s.client.reply refl
 
-    -- a word of no bytes
-    unheard : (w : Said) (xs : List Said) (c : Client) → bytes_said (w ∷ []) ≡ [] → says_over xs ≡ false → Says (MayWaitForBody site.runs) head target older xs c → Says (MayWaitForBody site.runs) head target older (xs ++ w ∷ []) c
-    unheard w xs c e over h =
-        says-as (MayWaitForBody site.runs) head target older xs (xs ++ w ∷ []) c (sym (bytes-append xs (w ∷ []) over ∙ ap (λ bs. bytes_said xs ++ bs) e ∙ append-nil (bytes_said xs))) h
+module _ {J R : Type 0} (site : Service J R) (now : ℕ) (head : Head) (target : Target) (older : List Exchange) where
+  abbrev pub SaysThere : List Said → Client → Type 0
+  SaysThere xs c = Says (MayWaitForBody site.runs) head target older xs c
 
-    pub says-there : (words xs : List Said) (b : Ledger J) (s : Both R) → says_over xs ≡ false → is_there b ≡ true → Says (MayWaitForBody site.runs) head target older xs s.client
-        → IsSaid (xs ++ words) (perform (says site now words Done) b s).state
-    says-there [] xs b s over there h = (there, says-as (MayWaitForBody site.runs) head target older xs (xs ++ []) s.client (ap bytes_said (sym (append-nil xs))) h)
-    says-there (said.Send bytes ∷ more) xs b s over there h =
-        sends-from head target older (IsSaid (xs ++ said.Send bytes ∷ more)) xs bytes (says site now more Done) over
-        (λ c t k g. onward (said.Send bytes) more xs (perform (says site now more Done) c t).state
-        (says-there more (xs ++ said.Send bytes ∷ []) c t (over-append xs (said.Send bytes ∷ []) over) k g)) b s there h
-    says-there (said.WantsBody max ∷ more) xs b s over there h =
-        await-from head target older (IsSaid (xs ++ said.WantsBody max ∷ more)) xs (says site now more Done)
-        (λ c t k g. let w = said.WantsBody max in onward w more xs (perform (says site now more Done) c t).state
-        (says-there more (xs ++ w ∷ []) c t (over-append xs (w ∷ []) over) k (unheard w xs t.client refl over g))) b (record s { client = record s.client { limit = max } }) there
-        (record { newest = h.newest; unsent = h.unsent; expects = h.expects; waits = h.waits })
-    says-there (said.WantsNoBody ∷ more) xs b s over there h =
-        end-from head target older (IsSaid (xs ++ said.WantsNoBody ∷ more)) xs timer.Body (says site now more Done) (λ c t k g. let w = said.WantsNoBody in onward w more xs (perform (says site now more Done) c t).state
-        (says-there more (xs ++ w ∷ []) c t (over-append xs (w ∷ []) over) k (unheard w xs t.client refl over g))) b s there h
-    says-there (said.WantsAllTaken ∷ more) xs b s over there h =
-        let w = said.WantsAllTaken in onward w more xs (perform (says site now more Done) b s).state
-        (says-there more (xs ++ w ∷ []) b s (over-append xs (w ∷ []) over) there (unheard w xs s.client refl over h))
-    says-there (said.Ended closes ∷ more) xs b s over there h =
-        let w = said.Ended closes in
-        let t : Both R = record s { client = record s.client { reply = Whole closes } } in
-        onward w more xs (perform (says site now more Done) b t).state
-        (says-there more (xs ++ w ∷ []) b t (over-append xs (w ∷ []) over) there (unheard w xs t.client refl over
-        (record { newest = h.newest; unsent = λ u. absurd (let e : Whole closes ≡ Unsent = u in cc); expects = h.expects; waits = h.waits })))
-    says-there (said.Over ∷ more) xs b s over there h =
-        end-from head target older (IsSaid (xs ++ said.Over ∷ more)) xs timer.Body (change (λ c. record c { stage = stage.Flush }) Done)
-        (λ c t k g. let flushed = record t { client = record t.client { stage = stage.Flush } } in (
-          k,
-          says-as (MayWaitForBody site.runs) head target older xs (xs ++ said.Over ∷ more) flushed.client (sym (bytes-append xs (said.Over ∷ more) over ∙ append-nil (bytes_said xs)))
-              (record { newest = g.newest; unsent = g.unsent; expects = g.expects; waits = g.waits }),
-        )) b s there h
+  -- ---- what a run does in a turn
 
-  -- ---- a client that is gone
+  -- Of a client that is there or not, of a run, of what came and what was asked before: to where words and other deeds lead. The ledger is the same to the run
+  -- as this one, all these words were said, and these lines were logged.
+  module _ (there : Bool) (run : R) (came : Came) (others : List Exchange) where
+    pub record IsAt (b : Ledger J) (st : Stage) (xs : List Said) (ls : List (List ℕ)) (x : Left J (Both R)) : Type 0 where
+      pub same : SameRun b x.ledger
+      pub ran : x.inner.run ≡ run
+      pub at : x.inner.client.stage ≡ st
+      pub read : x.inner.client.came ≡ came
+      pub still : is_there x.ledger ≡ there
+      pub logged : x.lines ≡ ls
+      pub says : there ≡ true → SaysThere xs x.inner.client
+      pub gone : there ≡ false → x.inner.client.exchanges ≡ others
 
-  -- nothing more is sent
-  pub record IsUnsaid (es : List Exchange) (st : State J (Both R)) : Type 0 where
-    pub gone : is_there st.ledger ≡ false
-    pub same : st.inner.client.exchanges ≡ es
+    module _ (P : Left J (Both R) → Type 0) where
+      -- a word, and what follows it
+      abbrev Follows : Said → Move J (Both R) → Ledger J → Stage → List Said → List (List ℕ) → Type 0
+      Follows w m b st xs ls = (y : Left J (Both R)) → IsAt b (stage_word w st) (xs ++ w ∷ []) ls y → P (left m y.ledger y.inner y.lines)
 
-  pub says-gone : (es : List Exchange) (words : List Said) (b : Ledger J) (s : Both R) → IsUnsaid es (record { ledger = b; inner = s })
-      → IsUnsaid es (perform (says site now words Done) b s).state
-  says-gone es [] b s h = h
-  says-gone es (said.Send bytes ∷ more) b s h =
-      let t : Both R = record s { client = record s.client { reply = begun s.client.reply } } in
-      by t (is_there b) h.gone (says-gone es more b t (record { gone = h.gone; same = h.same }))
-    where
-      by : (t : Both R) (c : Bool) → c ≡ false → IsUnsaid es (perform (says site now more Done) b t).state
-          → IsUnsaid es (perform (if c then change (λ c. record c { exchanges = with_more bytes c.exchanges }) (move.Send place.Client bytes (says site now more Done)) else says site now more Done) b t).state
-      by t true e rest = absurd (let n : true ≡ false = e in cc)
-      by t false e rest = rest
-  says-gone es (said.WantsBody max ∷ more) b s h =
-      let t : Both R = record s { client = record s.client { limit = max } } in
-      by t (awaits_body site now b t) refl (says-gone es more b t (record { gone = h.gone; same = h.same }))
-    where
-      by : (t : Both R) (c : Bool) → awaits_body site now b t ≡ c → IsUnsaid es (perform (says site now more Done) b t).state
-          → IsUnsaid es (perform (if c then let_send site now t.client t.client.reply (begin_timer site now timer.Body (says site now more Done)) else says site now more Done) b t).state
-      by t true e rest = absurd (let n : false ≡ true = sym h.gone ∙ there-if b t e in cc)
-      by t false e rest = rest
-  says-gone es (said.WantsNoBody ∷ more) b s h =
-      by (has_number (number_of timer.Body) (numbers b.armed)) (says-gone es more (without_deadline (number_of timer.Body) b) s (record { gone = h.gone; same = h.same })) (says-gone es more b s h)
-    where
-      by : (c : Bool) → IsUnsaid es (perform (says site now more Done) (without_deadline (number_of timer.Body) b) s).state → IsUnsaid es (perform (says site now more Done) b s).state
-          → IsUnsaid es (perform (if c then Cancel (number_of timer.Body) (says site now more Done) else says site now more Done) b s).state
-      by true cancelled rest = cancelled
-      by false cancelled rest = rest
-  says-gone es (said.WantsAllTaken ∷ more) b s h = says-gone es more b s h
-  says-gone es (said.Ended closes ∷ more) b s h = says-gone es more b (record s { client = record s.client { reply = Whole closes } }) (record { gone = h.gone; same = h.same })
-  says-gone es (said.Over ∷ more) b s h = by (has_number (number_of timer.Body) (numbers b.armed))
-    where
-      by : (c : Bool) → IsUnsaid es (perform {S = Both R} (if c then Cancel (number_of timer.Body) (change (λ c. record c { stage = stage.Flush }) Done) else change (λ c. record c { stage = stage.Flush }) Done) b s).state
-      by true = record { gone = h.gone; same = h.same }
-      by false = record { gone = h.gone; same = h.same }
+      -- a word of no bytes changes no reply
+      unheard : (w : Said) (xs : List Said) (c : Client) → bytes_said (w ∷ []) ≡ [] → SaysThere xs c → SaysThere (xs ++ w ∷ []) c
+      unheard w xs c e h =
+          says-as (MayWaitForBody site.runs) head target older xs (xs ++ w ∷ []) c (sym (bytes-append xs (w ∷ []) ∙ ap (λ bs. bytes_said xs ++ bs) e ∙ append-nil (bytes_said xs))) h
+
+      cancelled : (b : Ledger J) (x : Left J (Both R)) → SameRun b x.ledger → SameRun b (without_deadline (number_of timer.Body) x.ledger)
+      cancelled b x same = same-run-trans b x.ledger (without_deadline (number_of timer.Body) x.ledger) same (cancelled-same (number_of timer.Body) x.ledger (own-number timer.Body))
+
+      word-leads : (w : Said) (m : Move J (Both R)) (b : Ledger J) (st : Stage) (xs : List Said) (ls : List (List ℕ)) (x : Left J (Both R)) → IsAt b st xs ls x → Follows w m b st xs ls
+          → P (left (says site now w m) x.ledger x.inner x.lines)
+      word-leads (said.Send bytes) m b st xs ls x a f = by (is_there x.ledger) refl
+        where
+          told : Both R
+          told = record x.inner { client = record x.inner.client { reply = begun x.inner.client.reply } }
+
+          by : (c : Bool) → is_there x.ledger ≡ c
+              → P (left (if c then change (λ c. record c { exchanges = with_more bytes c.exchanges }) (move.Send place.Client bytes m) else m) x.ledger told x.lines)
+          by true l = f (here_at (with_offer place.Client (with_sent place.Client bytes x.ledger)) (record told { client = record told.client { exchanges = with_more bytes told.client.exchanges } }) x.lines) (record {
+            same = same-run-trans b x.ledger (with_offer place.Client (with_sent place.Client bytes x.ledger)) a.same (sent-to-client-same bytes x.ledger);
+            ran = a.ran;
+            at = a.at;
+            read = a.read;
+            still = a.still;
+            logged = a.logged;
+            says = λ e. says-more (MayWaitForBody site.runs) head target older xs bytes x.inner.client (a.says e);
+            gone = λ g. absurd (let n : true ≡ false = sym l ∙ a.still ∙ g in cc);
+          })
+          by false l = f (here_at x.ledger told x.lines) (record {
+            same = a.same;
+            ran = a.ran;
+            at = a.at;
+            read = a.read;
+            still = a.still;
+            logged = a.logged;
+            says = λ e. absurd (let n : false ≡ true = sym l ∙ a.still ∙ e in cc);
+            gone = a.gone;
+          })
+      word-leads said.WantsNoBody m b st xs ls x a f = by (has_number (number_of timer.Body) (numbers x.ledger.armed))
+        where
+          says_so : there ≡ true → SaysThere (xs ++ said.WantsNoBody ∷ []) x.inner.client
+          says_so e = unheard said.WantsNoBody xs x.inner.client refl (a.says e)
+
+          by : (c : Bool) → P (left (if c then Cancel (number_of timer.Body) m else m) x.ledger x.inner x.lines)
+          by true = f (here_at (without_deadline (number_of timer.Body) x.ledger) x.inner x.lines)
+              (record { same = cancelled b x a.same; ran = a.ran; at = a.at; read = a.read; still = a.still; logged = a.logged; says = says_so; gone = a.gone })
+          by false = f x (record { same = a.same; ran = a.ran; at = a.at; read = a.read; still = a.still; logged = a.logged; says = says_so; gone = a.gone })
+      word-leads (said.Times times) m b st xs ls x a f = f (here_at x.ledger (record x.inner { client = with_times times x.inner.client }) x.lines) (record {
+        same = a.same;
+        ran = a.ran;
+        at = a.at;
+        read = a.read;
+        still = a.still;
+        logged = a.logged;
+        says = λ e. let h = unheard (said.Times times) xs x.inner.client refl (a.says e) in record { newest = h.newest; unsent = h.unsent; expects = h.expects; waits = h.waits };
+        gone = a.gone;
+      })
+      word-leads (said.Ended closes) m b st xs ls x a f = f (here_at x.ledger (record x.inner { client = record x.inner.client { reply = Whole closes } }) x.lines) (record {
+        same = a.same;
+        ran = a.ran;
+        at = a.at;
+        read = a.read;
+        still = a.still;
+        logged = a.logged;
+        says = λ e. let h = unheard (said.Ended closes) xs x.inner.client refl (a.says e) in
+            record { newest = h.newest; unsent = λ u. absurd (let e : Whole closes ≡ Unsent = u in cc); expects = h.expects; waits = h.waits };
+        gone = a.gone;
+      })
+      word-leads said.Over m b st xs ls x a f = by (has_number (number_of timer.Body) (numbers x.ledger.armed))
+        where
+          over : Both R
+          over = record x.inner { client = record x.inner.client { stage = stage.Flush } }
+
+          says_so : there ≡ true → SaysThere (xs ++ said.Over ∷ []) over.client
+          says_so e = let h = unheard said.Over xs x.inner.client refl (a.says e) in record { newest = h.newest; unsent = h.unsent; expects = h.expects; waits = h.waits }
+
+          by : (c : Bool) → let after : Move J (Both R) = change (λ c. record c { stage = stage.Flush }) m in P (left (if c then Cancel (number_of timer.Body) after else after) x.ledger x.inner x.lines)
+          by true = f (here_at (without_deadline (number_of timer.Body) x.ledger) over x.lines)
+              (record { same = cancelled b x a.same; ran = a.ran; at = refl; read = a.read; still = a.still; logged = a.logged; says = says_so; gone = a.gone })
+          by false = f (here_at x.ledger over x.lines) (record { same = a.same; ran = a.ran; at = refl; read = a.read; still = a.still; logged = a.logged; says = says_so; gone = a.gone })
+
+      -- a deed that is no word
+      moved : (d : Deed) (b : Ledger J) (st : Stage) (xs : List Said) (ls : List (List ℕ)) (x : Left J (Both R)) → IsAt b st xs ls x → IsAt (ledger_by d b) st xs ls (here_at (ledger_by d x.ledger) x.inner x.lines)
+      moved d b st xs ls x a = record {
+        same = deed-same d b x.ledger a.same;
+        ran = a.ran;
+        at = a.at;
+        read = a.read;
+        still = (deed-leaves-client d x.ledger).opened ∙ a.still;
+        logged = a.logged;
+        says = a.says;
+        gone = a.gone;
+      }
+
+      pub deeds-lead : (ds : List Deed) (m : Move J (Both R)) (b : Ledger J) (st : Stage) (xs zs : List Said) (ls ks : List (List ℕ)) (x : Left J (Both R)) → IsAt b st xs ls x
+          → xs ++ words_of ds ≡ zs → ls ++ lines_of ds ≡ ks → ((y : Left J (Both R)) → IsAt (ledger_after ds b) (stage_did ds st) zs ks y → P (left m y.ledger y.inner y.lines))
+          → P (left (lifted (says site now) ds m) x.ledger x.inner x.lines)
+      deeds-lead [] m b st xs zs ls ks x a w l f =
+          f x (subst (λ (ys : List Said). IsAt b st ys ks x) (sym (append-nil xs) ∙ w) (subst (λ (js : List (List ℕ)). IsAt b st xs js x) (sym (append-nil ls) ∙ l) a))
+      deeds-lead (Say v ∷ ds) m b st xs zs ls ks x a w l f = word-leads v (lifted (says site now) ds m) b st xs ls x a
+          (λ y c. deeds-lead ds m b (stage_word v st) (xs ++ v ∷ []) zs ls ks y c (append_assoc xs (v ∷ []) (words_of ds) ∙ w) l f)
+      deeds-lead (Ready k ∷ ds) m b st xs zs ls ks x a w l f = deeds-lead ds m (ledger_by (Ready k) b) st xs zs ls ks (here_at (ledger_by (Ready k) x.ledger) x.inner x.lines) (moved (Ready k) b st xs ls x a) w l f
+      deeds-lead (Unready k ∷ ds) m b st xs zs ls ks x a w l f = deeds-lead ds m (ledger_by (Unready k) b) st xs zs ls ks (here_at (ledger_by (Unready k) x.ledger) x.inner x.lines) (moved (Unready k) b st xs ls x a) w l f
+      deeds-lead (Arm k at ∷ ds) m b st xs zs ls ks x a w l f = deeds-lead ds m (ledger_by (Arm k at) b) st xs zs ls ks (here_at (ledger_by (Arm k at) x.ledger) x.inner x.lines) (moved (Arm k at) b st xs ls x a) w l f
+      deeds-lead (deed.Cancel k ∷ ds) m b st xs zs ls ks x a w l f =
+          deeds-lead ds m (ledger_by (deed.Cancel k) b) st xs zs ls ks (here_at (ledger_by (deed.Cancel k) x.ledger) x.inner x.lines) (moved (deed.Cancel k) b st xs ls x a) w l f
+      deeds-lead (HangUp k ∷ ds) m b st xs zs ls ks x a w l f = deeds-lead ds m (ledger_by (HangUp k) b) st xs zs ls ks (here_at (ledger_by (HangUp k) x.ledger) x.inner x.lines) (moved (HangUp k) b st xs ls x a) w l f
+      deeds-lead (Send k bytes ∷ ds) m b st xs zs ls ks x a w l f =
+          deeds-lead ds m (ledger_by (Send k bytes) b) st xs zs ls ks (here_at (ledger_by (Send k bytes) x.ledger) x.inner x.lines) (moved (Send k bytes) b st xs ls x a) w l f
+      deeds-lead (Log line ∷ ds) m b st xs zs ls ks x a w l f =
+          deeds-lead ds m b st xs zs (ls ++ line ∷ []) ks (here_at x.ledger x.inner (x.lines ++ line ∷ []))
+          (record { same = a.same; ran = a.ran; at = a.at; read = a.read; still = a.still; logged = ap (λ js. js ++ line ∷ []) a.logged; says = a.says; gone = a.gone })
+          w (append_assoc ls (line ∷ []) (lines_of ds) ∙ l) f

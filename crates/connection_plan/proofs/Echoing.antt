@@ -11,12 +11,11 @@ use Rattle.run_contract.specs.declared.turns.RunSeen.{RunSeen}
 use Rattle.run_contract.specs.declared.turns.RunSeen.TheVariants as seen
 use Rattle.run_contract.specs.declared.turns.SockSeen.{SockSeen}
 use Rattle.run_contract.specs.declared.turns.SockSeen.TheVariants as at
-use Rattle.run_contract.specs.Runs.{performed, waits_told, is_of_client, waits_at_first}
+use Rattle.run_contract.specs.Runs.{waits_told, is_of_client, waits_at_first}
 use Rattle.run_contract.specs.Alike.{AreAlike}
-use Rattle.run_contract.specs.Forms.{IsOwn}
 use Rattle.run_contract.specs.Conditions.{IsBlank, MayComeAt, MayCome, Leaves, entered_as, IsRun}
 use Rattle.run_contract.specs.StoredLaws.{own-due, not-below}
-use Rattle.connection_plan.specs.Examples.{Echo, Fresh, Reading, Replied, Left, echo_waits, echo_told, echo_begun, echo_turn, echo_plan, IsQueued, EchoHolds}
+use Rattle.connection_plan.specs.Examples.{Echo, Fresh, Asked, Reading, Replied, Left, echo_waits, echo_told, echo_begun, echo_turn, echo_plan, IsQueued, EchoHolds}
 
 never : {C : Type 0} → false ≡ true → C
 never e = absurd (cc)
@@ -47,7 +46,7 @@ known b r e h = record { threads = e; asked = h.none_asked; no_deadline = h.no_d
 
 -- its client is gone: the thread is queued
 leaves : {J : Type 0} (reads : Bool) (now : ℕ) (b : Ledger J) (r : Echo) → b.threads ≡ [] → EchoHolds b r
-    → Leaves (echo_plan reads) EchoHolds (waits_at_first false) (echo_turn now seen.ClientGone b r) b r
+    → Leaves (echo_plan reads) EchoHolds (waits_at_first false) (echo_turn now seen.ClientGone b r) b
 leaves reads now b r e h = rw e (record {
   known = record { threads = refl; asked = h.asked; no_deadline = h.no_deadline; no_socket = h.no_socket; unused = h.unused };
   waits = refl;
@@ -55,60 +54,93 @@ leaves reads now b r e h = rw e (record {
 })
 
 stays : {J : Type 0} (reads : Bool) (now : ℕ) (s : RunSeen) (b : Ledger J) (r : Echo) → EchoHolds b r → MayCome (echo_plan reads) now s b r
-    → Leaves (echo_plan reads) EchoHolds (waits_told s (echo_waits r)) (echo_turn now s (entered_as s b) r) (entered_as s b) r
+    → Leaves (echo_plan reads) EchoHolds (waits_told s (echo_waits r)) (echo_turn now s (entered_as s b) r) (entered_as s b)
 stays reads now (seen.Run k) b Left h x = record {
   known = record { threads = ap (drop 1) h.threads; asked = refl; no_deadline = h.no_deadline; no_socket = h.no_socket; unused = h.unused };
   waits = refl;
-  over = λ e. record { no_thread = h.threads; no_deadline = h.no_deadline; no_socket = h.no_socket; none_asked = refl; unused = h.unused };
+  over = λ e. (record { no_thread = h.threads; no_deadline = h.no_deadline; no_socket = h.no_socket; none_asked = refl; unused = h.unused }, refl);
 }
 stays reads now (seen.Run k) b Fresh h x = none-runs k b.threads h.threads x.0
 stays reads now (seen.Run k) b (Reading keep) h x = none-runs k b.threads h.threads x.0
+stays reads now (seen.Run k) b (Asked keep) h x = none-runs k b.threads h.threads x.0
 stays reads now (seen.Run k) b Replied h x = none-runs k b.threads h.threads x.0
 stays reads now seen.ClientGone b Fresh h x = leaves reads now b Fresh h.threads h
 stays reads now seen.ClientGone b (Reading keep) h x = leaves reads now b (Reading keep) h.threads h
+stays reads now seen.ClientGone b (Asked keep) h x = leaves reads now b (Asked keep) h.threads h
 stays reads now seen.ClientGone b Replied h x = leaves reads now b Replied h.threads h
 stays reads now seen.ClientGone b Left h x = never x.1
 stays reads now (seen.Body content waited) b (Reading keep) h x = record {
   known = known b Replied h.threads (blank b (Reading keep) h.threads h);
   waits = refl;
-  over = λ e. blank b (Reading keep) h.threads h;
+  over = λ e. (blank b (Reading keep) h.threads h, refl);
 }
-stays reads now (seen.Body content waited) b Fresh h x = never x.1
-stays reads now (seen.Body content waited) b Replied h x = never x.1
-stays reads now (seen.Body content waited) b Left h x = never x.1
+stays reads now (seen.Body content waited) b (Asked keep) h x = record {
+  known = known b Replied h.threads (blank b (Asked keep) h.threads h);
+  waits = refl;
+  over = λ e. (blank b (Asked keep) h.threads h, refl);
+}
+stays reads now (seen.Body content waited) b Fresh h x = never x.1.0
+stays reads now (seen.Body content waited) b Replied h x = never x.1.0
+stays reads now (seen.Body content waited) b Left h x = never x.1.0
 stays reads now (seen.BodyRefused code) b (Reading keep) h x = record {
   known = known b Replied h.threads (blank b (Reading keep) h.threads h);
   waits = refl;
-  over = λ e. blank b (Reading keep) h.threads h;
+  over = λ e. (blank b (Reading keep) h.threads h, refl);
 }
-stays reads now (seen.BodyRefused code) b Fresh h x = never x.1
-stays reads now (seen.BodyRefused code) b Replied h x = never x.1
-stays reads now (seen.BodyRefused code) b Left h x = never x.1
+stays reads now (seen.BodyRefused code) b (Asked keep) h x = record {
+  known = known b Replied h.threads (blank b (Asked keep) h.threads h);
+  waits = refl;
+  over = λ e. (blank b (Asked keep) h.threads h, refl);
+}
+stays reads now (seen.BodyRefused code) b Fresh h x = never x.1.0
+stays reads now (seen.BodyRefused code) b Replied h x = never x.1.0
+stays reads now (seen.BodyRefused code) b Left h x = never x.1.0
 stays reads now (seen.Due n) b r h x = absurd (own-due now n x.0.at b.armed x.0.first (not-below n x.1) h.no_deadline)
-stays reads now (seen.Sock k s) b r h x = none-comes b r k s h x
-stays reads now seen.AllTaken b (Reading keep) h x = never x.1
-stays reads now seen.AllTaken b Fresh h x = never x.1
-stays reads now seen.AllTaken b Replied h x = never x.1
-stays reads now seen.AllTaken b Left h x = never x.1
+stays reads now (seen.Sock k s) b r h x = none-comes b r k s h x.0
+stays reads now seen.AllTaken b (Reading keep) h x = never x.1.0
+stays reads now seen.AllTaken b Fresh h x = never x.1.0
+stays reads now seen.AllTaken b Replied h x = never x.1.0
+stays reads now seen.AllTaken b (Asked keep) h x = never x.1.0
+stays reads now seen.AllTaken b Left h x = never x.1.0
+stays reads now seen.NotYet b (Asked keep) h x = record { known = known b (Reading keep) h.threads (blank b (Asked keep) h.threads h); waits = refl; over = λ e. never e }
+stays reads now seen.NotYet b (Reading keep) h x = never x.1
+stays reads now seen.NotYet b Fresh h x = never x.1
+stays reads now seen.NotYet b Replied h x = never x.1
+stays reads now seen.NotYet b Left h x = never x.1
+stays reads now seen.ClientEnded b (Asked keep) h x = none-some _ (sym x.0.within)
+stays reads now seen.ClientEnded b (Reading keep) h x = record { known = h; waits = refl; over = λ e. never e }
+stays reads now seen.ClientEnded b Fresh h x = record { known = h; waits = refl; over = λ e. never e }
+stays reads now seen.ClientEnded b Replied h x = record { known = h; waits = refl; over = λ e. never e }
+stays reads now seen.ClientEnded b Left h x = never x.1
 
 falls : {J : Type 0} (reads : Bool) (now : ℕ) (s : RunSeen) (b : Ledger J) (r : Echo) → MayCome (echo_plan reads) now s b r → is_of_client s ≡ true
-    → echo_told (performed (echo_turn now s (entered_as s b) r) (entered_as s b) r).state.inner < echo_told r
+    → echo_told (echo_turn now s (entered_as s b) r).run < echo_told r
 falls reads now seen.ClientGone b Fresh x e = lit< tt
 falls reads now seen.ClientGone b (Reading keep) x e = lit< tt
 falls reads now seen.ClientGone b Replied x e = lit< tt
 falls reads now seen.ClientGone b Left x e = never x.1
 falls reads now (seen.Body content waited) b (Reading keep) x e = lit< tt
-falls reads now (seen.Body content waited) b Fresh x e = never x.1
-falls reads now (seen.Body content waited) b Replied x e = never x.1
-falls reads now (seen.Body content waited) b Left x e = never x.1
+falls reads now (seen.Body content waited) b (Asked keep) x e = lit< tt
+falls reads now (seen.Body content waited) b Fresh x e = never x.1.0
+falls reads now (seen.Body content waited) b Replied x e = never x.1.0
+falls reads now (seen.Body content waited) b Left x e = never x.1.0
 falls reads now (seen.BodyRefused code) b (Reading keep) x e = lit< tt
-falls reads now (seen.BodyRefused code) b Fresh x e = never x.1
-falls reads now (seen.BodyRefused code) b Replied x e = never x.1
-falls reads now (seen.BodyRefused code) b Left x e = never x.1
-falls reads now seen.AllTaken b (Reading keep) x e = never x.1
-falls reads now seen.AllTaken b Fresh x e = never x.1
-falls reads now seen.AllTaken b Replied x e = never x.1
-falls reads now seen.AllTaken b Left x e = never x.1
+falls reads now (seen.BodyRefused code) b (Asked keep) x e = lit< tt
+falls reads now (seen.BodyRefused code) b Fresh x e = never x.1.0
+falls reads now (seen.BodyRefused code) b Replied x e = never x.1.0
+falls reads now (seen.BodyRefused code) b Left x e = never x.1.0
+falls reads now seen.AllTaken b (Reading keep) x e = never x.1.0
+falls reads now seen.AllTaken b Fresh x e = never x.1.0
+falls reads now seen.AllTaken b Replied x e = never x.1.0
+falls reads now seen.AllTaken b (Asked keep) x e = never x.1.0
+falls reads now seen.AllTaken b Left x e = never x.1.0
+falls reads now seen.NotYet b (Asked keep) x e = lit< tt
+falls reads now seen.NotYet b (Reading keep) x e = never x.1
+falls reads now seen.NotYet b Fresh x e = never x.1
+falls reads now seen.NotYet b Replied x e = never x.1
+falls reads now seen.NotYet b Left x e = never x.1
+falls reads now seen.ClientEnded b r x e = never e
+falls reads now seen.ClientGone b (Asked keep) x e = lit< tt
 falls reads now (seen.Run k) b r x e = never e
 falls reads now (seen.Due n) b r x e = never e
 falls reads now (seen.Sock k s) b r x e = never e
@@ -127,25 +159,9 @@ apart b c r same h = record {
 }
 
 begins : {J : Type 0} (reads : Bool) (head : Head) (target : Target) (b : Ledger J) → IsBlank b
-    → Leaves (echo_plan reads) EchoHolds (waits_at_first true) (echo_begun reads head target) b Fresh
-begins true head target b h = record { known = known b (Reading head.keep) h.no_thread h; waits = refl; over = λ e. never e }
-begins false head target b h = record { known = known b Replied h.no_thread h; waits = refl; over = λ e. h }
-
-begins-own : (J : Type 0) (reads : Bool) (head : Head) (target : Target) → IsOwn {J = J} (echo_begun reads head target).moves
-begins-own J true head target = tt
-begins-own J false head target = tt
-
-own : {J : Type 0} (now : ℕ) (s : RunSeen) (b : Ledger J) (r : Echo) → IsOwn (echo_turn now s b r).moves
-own now (seen.Body content waited) b Fresh = tt
-own now (seen.Body content waited) b (Reading keep) = tt
-own now (seen.Body content waited) b Replied = tt
-own now (seen.Body content waited) b Left = tt
-own now (seen.BodyRefused code) b r = tt
-own now seen.ClientGone b r = tt
-own now (seen.Run k) b r = tt
-own now seen.AllTaken b r = tt
-own now (seen.Due n) b r = tt
-own now (seen.Sock k s) b r = tt
+    → Leaves (echo_plan reads) EchoHolds (waits_at_first true) (echo_begun reads head target) b
+begins true head target b h = record { known = known b (Asked head.keep) h.no_thread h; waits = refl; over = λ e. never e }
+begins false head target b h = record { known = known b Replied h.no_thread h; waits = refl; over = λ e. (h, refl) }
 
 pub echo-is-run : (J : Type 0) (reads : Bool) → IsRun {J = J} (echo_plan reads) EchoHolds
 echo-is-run J reads = record {
@@ -160,13 +176,9 @@ echo-is-run J reads = record {
   falls = λ now s b r h x e. falls reads now s b r x e;
   apart = λ b c r same h. apart b c r same h;
   asks = λ b r x h e. none-some x (sym h.asked ∙ e);
-  begins_by_own = λ now head target b. begins-own J reads head target;
-  begins_job_by_own = λ now premature job b. tt;
-  moves_by_own = λ now s b r. own now s b r;
-  answers_by_own = λ now x b r. tt;
   job = λ now premature job b. (tt, refl);
   due = λ now n b r. (tt, refl);
   gone = λ now b r. (tt, refl);
-  lost = λ now k b r h x. none-comes b r k at.Lost h x;
-  again = λ now k b r h x. none-comes b r k at.Ready h x;
+  lost = λ now k b r h x. none-comes b r k at.Lost h x.0;
+  again = λ now k b r h x. none-comes b r k at.Ready h x.0;
 }

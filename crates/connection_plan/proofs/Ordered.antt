@@ -20,7 +20,6 @@ use Rattle.strand_contract.specs.declared.turns.Start.TheVariants as start
 use Rattle.strand_contract.specs.Actions.{LocalAction, Told, Did, Began, Bytes, Ended, Broken, Ready, Dialled, Refused, same_place}
 use Rattle.strand_contract.specs.Actions.{Action, Put, Later, Lost, Close, Log, Dict, Take, Dial, Keep, Timer, Dropped, Run, Offer, Due, Halted, Gone}
 use Rattle.strand_contract.specs.Alone.{moment, is_open, Enabled, IsExecution}
-use Rattle.strand_plans.specs.Questions.{Question}
 use Rattle.strand_plans.specs.Ledgers.{Ledger, has, has_number, numbers, entered}
 use Rattle.strand_plans.specs.Moves.{Move, Done, Unready, Send, Arm, Cancel, HangUp, Set, Look, Ask, End, with_sent, with_offer, with_thread, without_thread}
 use Rattle.strand_plans.specs.Moves.{with_deadline, without_deadline, hung_up, asked_of, ended, perform}
@@ -31,15 +30,18 @@ use Rattle.run_contract.specs.declared.turns.RunSeen.{RunSeen}
 use Rattle.run_contract.specs.declared.turns.RunSeen.TheVariants as seen
 use Rattle.run_contract.specs.declared.turns.Said.{Said}
 use Rattle.run_contract.specs.declared.turns.Said.TheVariants as said
-use Rattle.run_contract.specs.Runs.{Turn}
-use Rattle.connection_plan.specs.Clients.{Stage, Reply, Client, Exchange, Unsent, Begun, Whole, Times, new_client, exchange, with_more, closes_after}
+use Rattle.run_contract.specs.Deeds as deed
+use Rattle.run_contract.specs.Deeds.{Deed, Say, Asks, Turn}
+use Rattle.run_contract.specs.declared.turns.Asking.TheVariants as asking
+use Rattle.run_contract.specs.declared.turns.Asking as questions
+use Rattle.connection_plan.specs.Clients.{Stage, Reply, Client, Exchange, Unsent, Begun, Whole, with_more, closes_after}
 use Rattle.connection_plan.specs.Clients as stage
 use Rattle.connection_plan.specs.Services.{Service, Both}
 use Rattle.connection_plan.specs.Timers as timer
-use Rattle.connection_plan.specs.Turns.{continue_reply, is_there, is_all_taken, is_to_close, awaits_body, change, finish, ask, send, begin_timer, end_timer}
+use Rattle.connection_plan.specs.Turns.{continue_reply, is_there, is_all_taken, is_to_close, may_come, wait_more, waits_of, asks_then, answer_body, taken_answer, waiting, busy_at, change, finish, send, begin_timer, end_timer}
 use Rattle.connection_plan.specs.Turns.{let_send, await_body, says, run_turn, tell, lose_at, lose, begin, close_if_taken, refuse, wait_for, heard_by, heard}
 use Rattle.connection_plan.specs.Turns.{tell_body, ask_body, busy, flush, settled_at, tells, settle_for, settle}
-use Rattle.connection_plan.specs.Connections.{starts, came_at, ends_at, to_run, is_due, connection_plan, connection_behavior}
+use Rattle.connection_plan.specs.Connections.{came_at, ends_at, to_run, is_due, connection_plan, connection_behavior}
 use Rattle.connection_plan.specs.Connections as turns
 use Rattle.connection_plan.specs.Asked.{bytes_of, asked_so_far, AsksInOrder}
 use Rattle.connection_plan.specs.InStep.{IsInStep}
@@ -85,12 +87,29 @@ AtStage stage.Drop job all c = Waiting all c.came (asked_so_far c.exchanges)
 abbrev Holds : Bool → List ℕ → Client → Type 0
 Holds job all c = AtStage c.stage job all c
 
+-- the client's next bytes are waited for
+abbrev pub AwaitsBytes : Stage → Type 0
+AwaitsBytes stage.Idle = Unit {0}
+AwaitsBytes stage.Head = Unit {0}
+AwaitsBytes stage.Drop = Unit {0}
+AwaitsBytes st = ⊥
+
 -- a run goes on
 abbrev Runs : Bool → List ℕ → Client → Type 0
 Runs job all c = (c.stage ≡ stage.Busy) × AtStage stage.Busy job all c
 
 runs-hold : (job : Bool) (all : List ℕ) (c : Client) → Runs job all c → Holds job all c
 runs-hold job all c r = subst (λ (st : Stage). AtStage st job all c) (sym r.0) r.1
+
+-- the stage while deeds are done: busy, or past the word that ends the run
+abbrev Going : Bool → List ℕ → Client → Type 0
+Going job all c = ((c.stage ≡ stage.Busy) ⊎ (c.stage ≡ stage.Flush)) × AtStage stage.Busy job all c
+
+going-hold : (job : Bool) (all : List ℕ) (c : Client) → Going job all c → Holds job all c
+going-hold job all c g = elim g.0 [
+  | inl e ↦ subst (λ (st : Stage). AtStage st job all c) (sym e) g.1
+  | inr e ↦ subst (λ (st : Stage). AtStage st job all c) (sym e) (inl g.1.1)
+]
 
 -- a reply is whole, after which nothing is asked
 abbrev Closes : Bool → List ℕ → Client → Type 0
@@ -127,6 +146,10 @@ IsOfAsked job Q = (more : List ℕ) (c : Client) → job ≡ false → Q c → Q
 
 runs-asked : (job : Bool) (all : List ℕ) → IsOfAsked job (Runs job all)
 runs-asked job all more c j r =
+    (r.0, ((λ e. some-more more c.exchanges (r.1.0 e)), subst (Asking job all c.came) (same-asked more c.exchanges (r.1.0 j)) r.1.1))
+
+going-asked : (job : Bool) (all : List ℕ) → IsOfAsked job (Going job all)
+going-asked job all more c j r =
     (r.0, ((λ e. some-more more c.exchanges (r.1.0 e)), subst (Asking job all c.came) (same-asked more c.exchanges (r.1.0 j)) r.1.1))
 
 closes-asked : (job : Bool) (all : List ℕ) → IsOfAsked job (Closes job all)
@@ -183,23 +206,6 @@ module _ {J R : Type 0} (job : Bool) (all : List ℕ) where
   finish-from : From (Holds job all) finish
   finish-from b s k h = holds-begins job all s.client h
 
-  -- the moves of a run
-  lifted-from : (Q : Client → Type 0) (m : Move J R) (after : Move J (Both R)) (asks : Question J → Move J (Both R)) → From Q after
-      → ((x : Question J) → From Q (asks x))
-      → From Q (lifted m after asks)
-  lifted-from Q Done after asks f g b s k q = f b s k q
-  lifted-from Q (move.Ready n m) after asks f g b s k q = lifted-from Q m after asks f g (with_thread n b) s k q
-  lifted-from Q (Unready n m) after asks f g b s k q = lifted-from Q m after asks f g (without_thread n b) s k q
-  lifted-from Q (Send p bytes m) after asks f g b s k q = lifted-from Q m after asks f g (with_offer p (with_sent p bytes b)) s k q
-  lifted-from Q (Arm n at m) after asks f g b s k q = lifted-from Q m after asks f g (with_deadline n at b) s k q
-  lifted-from Q (Cancel n m) after asks f g b s k q = lifted-from Q m after asks f g (without_deadline n b) s k q
-  lifted-from Q (HangUp p m) after asks f g b s k q = lifted-from Q m after asks f g (hung_up p b) s (none-hung job p b k) q
-  lifted-from Q (move.Log line m) after asks f g b s k q = lifted-from Q m after asks f g b s k q
-  lifted-from Q (Set h m) after asks f g b s k q = lifted-from Q m after asks f g b (record s { run = h s.run }) k q
-  lifted-from Q (Look go) after asks f g b s k q = lifted-from Q (go b s.run) after asks f g b s k q
-  lifted-from Q (Ask x) after asks f g b s k q = g x b s k q
-  lifted-from Q End after asks f g b s k q = f b s k q
-
 module _ {J R : Type 0} (site : Service J R) (now : ℕ) (job : Bool) (all : List ℕ) where
   abbrev Leads : (Client → Type 0) → Move J (Both R) → Type 0
   Leads Q m = From job all Q m
@@ -239,43 +245,53 @@ module _ {J R : Type 0} (site : Service J R) (now : ℕ) (job : Bool) (all : Lis
       by true = f b s k q
       by false = asked c.expects (record s { client = record s.client { waited = true } }) q
 
+  wait-more-from : (c : Client) (m : Move J (Both R)) → Leads (Runs job all) m → Leads (Runs job all) (wait_more site now c m)
+  wait-more-from c m f = let-send-from c c.reply (begin_timer site now timer.Body m) (begin-timer-from (Runs job all) timer.Body m f)
+
   await-from : (m : Move J (Both R)) → Leads (Runs job all) m → Leads (Runs job all) (await_body site now m)
-  await-from m f b s k q = by (awaits_body site now b s)
+  await-from m f b s k q = by ((waits_of site now s).body && may_come site now b s.client)
     where
-      by : (c : Bool)
-          → After job all (if c then let_send site now s.client s.client.reply (begin_timer site now timer.Body m) else m) b s
-      by true = let-send-from s.client s.client.reply (begin_timer site now timer.Body m) (begin-timer-from (Runs job all) timer.Body m f) b s k q
+      by : (c : Bool) → After job all (if c then wait_more site now s.client m else m) b s
+      by true = wait-more-from s.client m f b s k q
       by false = f b s k q
 
   -- what is known leads on where a run goes on too
   of-runs : (m : Move J (Both R)) → Leads (Holds job all) m → Leads (Runs job all) m
   of-runs m f b s k r = f b s k (runs-hold job all s.client r)
 
-  says-from : (words : List Said) (m : Move J (Both R)) → Leads (Holds job all) m → Leads (Runs job all) (says site now words m)
-  says-from [] m f b s k r = of-runs m f b s k r
-  says-from (said.Send bytes ∷ more) m f b s k r =
-      send-from (Runs job all) (runs-asked job all) bytes (says site now more m) (says-from more m f) b
-      (record s { client = record s.client { reply = stage.begun s.client.reply } }) k r
-  says-from (said.WantsBody max ∷ more) m f b s k r =
-      await-from (says site now more m) (says-from more m f) b (record s { client = record s.client { limit = max } }) k r
-  says-from (said.WantsNoBody ∷ more) m f b s k r = end-timer-from (Runs job all) timer.Body (says site now more m) (says-from more m f) b s k r
-  says-from (said.WantsAllTaken ∷ more) m f b s k r = says-from more m f b s k r
-  says-from (said.Ended closes ∷ more) m f b s k r = says-from more m f b (record s { client = record s.client { reply = Whole closes } }) k r
-  says-from (said.Over ∷ more) m f b s k r =
-      end-timer-from (Runs job all) timer.Body (change (λ c. record c { stage = stage.Flush }) m)
-      (λ c t k q. f c (record t { client = record t.client { stage = stage.Flush } }) k (inl q.1.1)) b s k r
+  says-from : (w : Said) (m : Move J (Both R)) → Leads (Going job all) m → Leads (Going job all) (says site now w m)
+  says-from (said.Send bytes) m f b s k r =
+      send-from (Going job all) (going-asked job all) bytes m f b (record s { client = record s.client { reply = stage.begun s.client.reply } }) k r
+  says-from said.WantsNoBody m f b s k r = end-timer-from (Going job all) timer.Body m f b s k r
+  says-from (said.Times times) m f b s k r = f b (record s { client = stage.with_times times s.client }) k r
+  says-from (said.Ended closes) m f b s k r = f b (record s { client = record s.client { reply = Whole closes } }) k r
+  says-from said.Over m f b s k r =
+      end-timer-from (Going job all) timer.Body (change (λ c. record c { stage = stage.Flush }) m)
+      (λ c t k q. f c (record t { client = record t.client { stage = stage.Flush } }) k (inr refl, q.1)) b s k r
 
-  ask-from : (x : Question J) (m : Move J (Both R)) → Leads (Holds job all) m → Leads (Holds job all) (ask x m)
-  ask-from x m f b s k h = by (is_some (asked_of x b))
+  -- deeds keep the order: their words send for the newest exchange
+  lifted-from : (ds : List Deed) (m : Move J (Both R)) → Leads (Holds job all) m → Leads (Going job all) (lifted (says site now) ds m)
+  lifted-from [] m f b s k q = f b s k (going-hold job all s.client q)
+  lifted-from (Say w ∷ ds) m f b s k q = says-from w (lifted (says site now) ds m) (lifted-from ds m f) b s k q
+  lifted-from (deed.Ready n ∷ ds) m f b s k q = lifted-from ds m f (with_thread n b) s k q
+  lifted-from (deed.Unready n ∷ ds) m f b s k q = lifted-from ds m f (without_thread n b) s k q
+  lifted-from (deed.Send n bytes ∷ ds) m f b s k q = lifted-from ds m f (with_offer (place.Sock n) (with_sent (place.Sock n) bytes b)) s k q
+  lifted-from (deed.Arm n at ∷ ds) m f b s k q = lifted-from ds m f (with_deadline (suc (suc n)) at b) s k q
+  lifted-from (deed.Cancel n ∷ ds) m f b s k q = lifted-from ds m f (without_deadline (suc (suc n)) b) s k q
+  lifted-from (deed.HangUp n ∷ ds) m f b s k q = lifted-from ds m f (hung_up (place.Sock n) b) s (none-hung job (place.Sock n) b k) q
+  lifted-from (deed.Log line ∷ ds) m f b s k q = lifted-from ds m f b s k q
+
+  asks-from : (a : Asks J) (m : Move J (Both R)) → Leads (Holds job all) m → Leads (Holds job all) (asks_then site now a m)
+  asks-from deed.Nothing m f b s k h = f b s k h
+  asks-from (deed.Within q) m f b s k h = f b s k h
+  asks-from (deed.Outside x) m f b s k h = by (is_some (asked_of x b))
     where
       by : (c : Bool) → After job all (if c then Ask x else m) b s
       by true = h
       by false = f b s k h
 
   turn-from : (t : Turn J R) (m : Move J (Both R)) → Leads (Holds job all) m → Leads (Runs job all) (run_turn site now t m)
-  turn-from t m f =
-      lifted-from job all (Runs job all) t.moves (says site now t.said m) (λ x. says site now t.said (ask x m)) (says-from t.said m f)
-      (λ x. says-from t.said (ask x m) (ask-from x m f))
+  turn-from t m f b s k r = lifted-from t.does (asks_then site now t.asks m) (asks-from t.asks m f) b (record s { run = t.run }) k (inl r.0, r.1)
 
   tell-from : (x : RunSeen) (m : Move J (Both R)) → Leads (Holds job all) m → Leads (Runs job all) (tell site now x m)
   tell-from x m f b s k r = turn-from (site.runs.turn now x b s.run) m f b s k r
@@ -390,9 +406,13 @@ module _ {J R : Type 0} (site : Service J R) (now : ℕ) (job : Bool) (all : Lis
   asking-asks came max asked h =
       ((λ e. asked-present came.at came.held max (h.0 e)), (asked-in-step came.at came.held max h.1.0, asked-on came max all asked h.1.0 h.1.1))
 
-  busy-from : (again : Move J (Both R)) (b : Ledger J) (s : Both R) → HasNone job b → Leads (Holds job all) again → Runs job all s.client
-      → After job all (busy site now again b s) b s
-  busy-from again b s k f r = first (is_all_taken b && (site.runs.waits s.run).taken) (is_to_close b s.client) (site.runs.waits s.run).body
+  answer-from : (again : Move J (Both R)) (o : Option RunSeen) → Leads (Holds job all) again → Leads (Runs job all) (answer_body site now again o)
+  answer-from again None f b s k r = wait-more-from s.client (tell site now seen.NotYet again) (tell-from seen.NotYet again f) b s k r
+  answer-from again (Some x) f b s k r = end-timer-from (Runs job all) timer.Body (tell site now x again) (tell-from x again f) b s k r
+
+  waiting-from : (again : Move J (Both R)) (b : Ledger J) (s : Both R) → HasNone job b → Leads (Holds job all) again → Runs job all s.client
+      → After job all (waiting site now again b s) b s
+  waiting-from again b s k f r = first (is_all_taken b && (site.runs.waits s.run).taken) (is_to_close b s.client) (site.runs.waits s.run).body
     where
       first : (x y z : Bool)
           → After job all
@@ -403,6 +423,16 @@ module _ {J R : Type 0} (site : Service J R) (now : ℕ) (job : Bool) (all : Lis
           told-from again _ f b (record s { client = record s.client { came = after_asked s.client.came s.client.limit } }) k
           (r.0, (r.1.0, asking-asks s.client.came s.client.limit (asked_so_far s.client.exchanges) r.1.1))
       first false false false = runs-hold job all s.client r
+
+  busy-from : (again : Move J (Both R)) (b : Ledger J) (s : Both R) → HasNone job b → Leads (Holds job all) again → Runs job all s.client
+      → After job all (busy site now again b s) b s
+  busy-from again b s k f r = by (site.runs.waits s.run).asks
+    where
+      by : (q : Option questions.Asking) → After job all (busy_at site now q again b s) b s
+      by None = waiting-from again b s k f r
+      by (Some asking.AllTaken) = tell-from (taken_answer site now b) again f b s k r
+      by (Some (asking.Body max)) = answer-from again _ f b (record s { client = record s.client { limit = max; came = after_asked s.client.came max } }) k
+          (r.0, (r.1.0, asking-asks s.client.came max (asked_so_far s.client.exchanges) r.1.1))
 
   flush-from : (rest : Move J (Both R)) (b : Ledger J) (s : Both R) → HasNone job b → Leads (Holds job all) rest → s.client.stage ≡ stage.Flush
       → AtStage stage.Flush job all s.client
@@ -441,10 +471,18 @@ module _ {J R : Type 0} (site : Service J R) (now : ℕ) (job : Bool) (all : Lis
   settle-from b s k h = settle-for-from (suc (length s.client.came.held)) b s k h
 
   ends-from : (st : Stage) (b : Ledger J) (s : Both R) → HasNone job b → s.client.stage ≡ st → Holds job all s.client
-      → After job all (ends_at site now st) b s
-  ends-from stage.Busy b s k e h =
-      of-runs (settle site now) settle-from b (record s { client = record s.client { ended = true } }) k
-      (e, subst (λ (st : Stage). AtStage st job all s.client) e h)
+      → After job all (ends_at site now st s) b s
+  ends-from stage.Busy b s k e h = by (site.runs.waits s.run).client
+    where
+      t : Both R
+      t = record s { client = record s.client { ended = true } }
+
+      r : Runs job all t.client
+      r = (e, subst (λ (st : Stage). AtStage st job all s.client) e h)
+
+      by : (c : Bool) → After job all (if c then tell site now seen.ClientEnded (settle site now) else settle site now) b t
+      by true = tell-from seen.ClientEnded (settle site now) settle-from b t k r
+      by false = of-runs (settle site now) settle-from b t k r
   ends-from stage.Flush b s k e h =
       let c = record s.client { ended = true } in
       let flushes : AtStage stage.Flush job all s.client = subst (λ (st : Stage). AtStage st job all s.client) e h in
@@ -667,3 +705,19 @@ module _ {J R : Type 0} (site : Service J R) where
   asks-in-order es x =
       let c = (state_of (connection_plan site) es).inner.client in
       begins-so (bytes_of es) (asked_so_far c.exchanges) (holds-begins (is_job es) (bytes_of es) c (kept es x).1)
+
+  -- where the client's next bytes are waited for, what is read of them was not asked yet
+  pub reads-next : (es : List (LocalAction J)) → IsExecution (connection_behavior site) es → (st : Stage) → (state_of (connection_plan site) es).inner.client.stage ≡ st → AwaitsBytes st
+      → let c = (state_of (connection_plan site) es).inner.client in Follows c.came [] (bytes_of es) (asked_so_far c.exchanges)
+  reads-next es x st e at = by st at (subst (λ (st : Stage). AtStage st (is_job es) (bytes_of es) c) e (kept es x).1)
+    where
+      c : Client
+      c = (state_of (connection_plan site) es).inner.client
+
+      by : (st : Stage) → AwaitsBytes st → AtStage st (is_job es) (bytes_of es) c → Follows c.came [] (bytes_of es) (asked_so_far c.exchanges)
+      by stage.Idle at h = h.1
+      by stage.Head at h = h.1
+      by stage.Drop at h = h.1
+      by stage.Busy at h = absurd at
+      by stage.Flush at h = absurd at
+      by stage.Over at h = absurd at

@@ -1,15 +1,15 @@
--- A run's own moves leave what is the client's as it is: its place, what was sent to it and taken, its offer, and the deadlines 0 and 1.
-use Rattle.std.proofs.Common.{◌≡◌, ℕ, ◌<◌, ◌≤◌, Bool, true, false, ◌||◌, ◌==◌, List, [], ◌∷◌, ◌++◌, if◌then◌else◌, refl, sym, ap, ◌∙◌, eqb-true, arith}
+-- What deeds of a run leave as it was, since they have no name for it: the client's place, what was sent to it and taken, its offer, and deadlines 0 and 1.
+use Rattle.std.proofs.Common.{◌≡◌, ℕ, suc, ◌<◌, ◌≤◌, Bool, true, false, ◌||◌, ◌==◌, List, [], ◌∷◌, ◌++◌, if◌then◌else◌, refl, sym, ap, ◌∙◌, eqb-true, arith}
 use Rattle.resty_base.specs.declared.names.Ms.{Ms}
 use Rattle.strand_contract.specs.declared.turns.Place.{Place}
 use Rattle.strand_contract.specs.declared.turns.Place.TheVariants as place
 use Rattle.strand_contract.specs.Actions.{same_place}
 use Rattle.strand_contract.specs.Alone.{disarmed}
 use Rattle.strand_plans.specs.Ledgers.{Ledger, has, has_number, numbers, wants_offer}
-use Rattle.strand_plans.specs.Moves.{Move, Done, Unready, Send, Arm, Cancel, HangUp, Log, Set, Look, Ask, End, added_if, sends, with_sent, with_offer, with_thread, without_thread, with_deadline, without_deadline, hung_up, perform}
-use Rattle.strand_plans.specs.Moves as move
+use Rattle.strand_plans.specs.Moves.{added_if, sends, with_sent, with_offer, with_thread, without_thread, with_deadline, without_deadline, hung_up}
 use Rattle.strand_plans.proofs.Places.{has-without, has-append}
-use Rattle.run_contract.specs.Forms.{IsOwn, IsSock}
+use Rattle.run_contract.specs.Deeds as deed
+use Rattle.run_contract.specs.Deeds.{Deed, ledger_by, ledger_after}
 
 pub record LeavesClient {J : Type 0} (b c : Ledger J) : Type 0 where
   pub opened : has place.Client c.opened ≡ has place.Client b.opened
@@ -83,9 +83,8 @@ cancel-leaves : {J : Type 0} (k : ℕ) (b : Ledger J) → 2 ≤ k → LeavesClie
 cancel-leaves k b high =
     record { opened = refl; sent = refl; taken = refl; put_off = refl; places = refl; begun = refl; armed = λ n low. disarmed-apart n k low high b.armed; count = refl; ended = refl }
 
-hang-leaves : {J : Type 0} (q : Place) (b : Ledger J) → IsSock q → LeavesClient b (hung_up q b)
-hang-leaves place.Client b h = absurd h
-hang-leaves (place.Sock k) b h =
+hang-leaves : {J : Type 0} (k : ℕ) (b : Ledger J) → LeavesClient b (hung_up (place.Sock k) b)
+hang-leaves k b =
     record { opened = has-without place.Client (place.Sock k) b.opened; sent = refl; taken = refl; put_off = refl; places = refl; begun = refl; armed = λ n low. refl; count = refl; ended = refl }
 
 not-added : (c : Bool) (k : ℕ) (qs : List Place) → has place.Client (added_if c (place.Sock k) qs) ≡ has place.Client qs
@@ -100,9 +99,8 @@ not-sent : (c : Bool) (k : ℕ) (bytes : List ℕ) (sent : Place → List ℕ) �
 not-sent true k bytes sent = refl
 not-sent false k bytes sent = refl
 
-send-leaves : {J : Type 0} (q : Place) (bytes : List ℕ) (b : Ledger J) → IsSock q → LeavesClient b (with_offer q (with_sent q bytes b))
-send-leaves place.Client bytes b h = absurd h
-send-leaves (place.Sock k) bytes b h = record {
+send-leaves : {J : Type 0} (k : ℕ) (bytes : List ℕ) (b : Ledger J) → LeavesClient b (with_offer (place.Sock k) (with_sent (place.Sock k) bytes b))
+send-leaves k bytes b = record {
   opened = refl;
   sent = not-sent (has (place.Sock k) b.opened) k bytes b.sent;
   taken = refl;
@@ -117,17 +115,19 @@ send-leaves (place.Sock k) bytes b h = record {
 same-client : {J : Type 0} (b : Ledger J) (threads : List ℕ) → LeavesClient b (record b { threads = threads })
 same-client b threads = record { opened = refl; sent = refl; taken = refl; put_off = refl; places = refl; begun = refl; armed = λ n low. refl; count = refl; ended = refl }
 
-module _ {J R : Type 0} where
-  pub own-leaves-client : (m : Move J R) (b : Ledger J) (r : R) → IsOwn m → LeavesClient b (perform m b r).state.ledger
-  own-leaves-client Done b r own = leaves-all b
-  own-leaves-client (move.Ready k m) b r own = let c = with_thread k b in and-then b c _ (same-client b c.threads) (own-leaves-client m c r own)
-  own-leaves-client (Unready k m) b r own = let c = without_thread k b in and-then b c _ (same-client b c.threads) (own-leaves-client m c r own)
-  own-leaves-client (Send q bytes m) b r own = let c = with_offer q (with_sent q bytes b) in and-then b c _ (send-leaves q bytes b own.0) (own-leaves-client m c r own.1)
-  own-leaves-client (Arm n at m) b r own = let c = with_deadline n at b in and-then b c _ (arm-leaves n at b own.0) (own-leaves-client m c r own.1)
-  own-leaves-client (Cancel n m) b r own = let c = without_deadline n b in and-then b c _ (cancel-leaves n b own.0) (own-leaves-client m c r own.1)
-  own-leaves-client (HangUp q m) b r own = let c = hung_up q b in and-then b c _ (hang-leaves q b own.0) (own-leaves-client m c r own.1)
-  own-leaves-client (Log line m) b r own = own-leaves-client m b r own
-  own-leaves-client (Set f m) b r own = own-leaves-client m b (f r) own
-  own-leaves-client (Look go) b r own = own-leaves-client (go b r) b r (own b r)
-  own-leaves-client (Ask x) b r own = record { opened = refl; sent = refl; taken = refl; put_off = refl; places = refl; begun = refl; armed = λ n low. refl; count = refl; ended = refl }
-  own-leaves-client End b r own = absurd own
+own : (k : ℕ) → 2 ≤ suc (suc k)
+own k = omega arith
+
+pub deed-leaves-client : {J : Type 0} (d : Deed) (b : Ledger J) → LeavesClient b (ledger_by d b)
+deed-leaves-client (deed.Ready k) b = same-client b (with_thread k b).threads
+deed-leaves-client (deed.Unready k) b = same-client b (without_thread k b).threads
+deed-leaves-client (deed.Send k bytes) b = send-leaves k bytes b
+deed-leaves-client (deed.Arm k at) b = arm-leaves (suc (suc k)) at b (own k)
+deed-leaves-client (deed.Cancel k) b = cancel-leaves (suc (suc k)) b (own k)
+deed-leaves-client (deed.HangUp k) b = hang-leaves k b
+deed-leaves-client (deed.Log line) b = leaves-all b
+deed-leaves-client (deed.Say w) b = leaves-all b
+
+pub deeds-leave-client : {J : Type 0} (ds : List Deed) (b : Ledger J) → LeavesClient b (ledger_after ds b)
+deeds-leave-client [] b = leaves-all b
+deeds-leave-client (d ∷ ds) b = let c = ledger_by d b in and-then b c _ (deed-leaves-client d b) (deeds-leave-client ds c)

@@ -1,11 +1,13 @@
 -- What a prefix of a connection's moves comes to: acts of its own, and a state from which whatever follows goes on.
-use Rattle.std.proofs.Common.{◌≡◌, ℕ, Bool, true, false, List, [], ◌∷◌, ◌++◌, if◌then◌else◌, refl, sym, ap, ◌∙◌, append_assoc}
+use Rattle.std.proofs.Common.{◌≡◌, ℕ, suc, ◌&&◌, not, Bool, true, false, List, [], ◌∷◌, ◌++◌, if◌then◌else◌, refl, sym, ap, ◌∙◌, append_assoc}
 use Rattle.strand_contract.specs.declared.turns.Act.{Act}
 use Rattle.strand_contract.specs.declared.turns.Act.TheVariants as act
 use Rattle.strand_contract.specs.declared.turns.Place.TheVariants as place
-use Rattle.strand_plans.specs.Ledgers.{Ledger, has_number, numbers, wants_offer}
-use Rattle.strand_plans.specs.Moves.{Move, Done, Cancel, Performed, with_sent, with_offer, after_act_if, perform}
+use Rattle.strand_plans.specs.Ledgers.{Ledger, has, has_number, numbers, wants_offer}
+use Rattle.strand_plans.specs.Moves.{Move, Done, Cancel, Performed, with_sent, with_offer, with_thread, without_thread, with_deadline, without_deadline, hung_up, after_act_if, perform}
 use Rattle.strand_plans.specs.Moves as move
+use Rattle.run_contract.specs.Deeds as deed
+use Rattle.run_contract.specs.Deeds.{Deed, Say}
 use Rattle.run_contract.specs.declared.turns.Said.{Said}
 use Rattle.run_contract.specs.declared.turns.Said.TheVariants as said
 use Rattle.connection_plan.specs.Clients.{Reply, Client, Unsent, Begun, Whole, with_more, begun}
@@ -13,7 +15,8 @@ use Rattle.connection_plan.specs.Clients as stage
 use Rattle.connection_plan.specs.Services.{Service, Both}
 use Rattle.connection_plan.specs.Timers.{Timer, number_of}
 use Rattle.connection_plan.specs.Timers as timer
-use Rattle.connection_plan.specs.Turns.{is_there, change, send, begin_timer, end_timer, continue_reply, let_send, awaits_body, await_body, says}
+use Rattle.connection_plan.specs.Turns.{is_there, change, send, begin_timer, end_timer, continue_reply, let_send, may_come, wait_more, waits_of, await_body, says}
+use Rattle.connection_plan.specs.Lifts.{lifted}
 
 module _ {J S : Type 0} where
   -- these acts, and then what was done
@@ -98,29 +101,47 @@ module _ {J R : Type 0} (site : Service J R) (now : ℕ) where
       by true = refl
       by false = asked c.expects
 
+  pub wait_more-precedes : (c : Client) (b : Ledger J) (s : Both R) → Precedes (wait_more site now c) b s
+  wait_more-precedes c b s m = both-precede (let_send site now c c.reply) (begin_timer site now timer.Body) b s (let_send-precedes c c.reply b s) (λ m. refl) m
+
   pub await_body-precedes : (b : Ledger J) (s : Both R) → Precedes (await_body site now) b s
-  await_body-precedes b s m = by (awaits_body site now b s)
+  await_body-precedes b s m = by ((waits_of site now s).body && may_come site now b s.client)
     where
-      by : (c : Bool) → let f : Move J (Both R) → Move J (Both R) = λ m. let_send site now s.client s.client.reply (begin_timer site now timer.Body m) in
+      by : (c : Bool) → let f : Move J (Both R) → Move J (Both R) = wait_more site now s.client in
           perform (if c then f m else m) b s ≡ followed (perform (if c then f Done else Done) b s) m
-      by true = both-precede (let_send site now s.client s.client.reply) (begin_timer site now timer.Body) b s
-          (let_send-precedes s.client s.client.reply b s) (λ m. refl) m
+      by true = wait_more-precedes s.client b s m
       by false = refl
 
-  pub says-precedes : (words : List Said) (b : Ledger J) (s : Both R) → Precedes (says site now words) b s
-  says-precedes [] b s m = refl
-  says-precedes (said.Send bytes ∷ more) b s m =
-      let t = record s { client = record s.client { reply = begun s.client.reply } } in
-      let d = went (send site now bytes) b t in
-      both-precede (send site now bytes) (says site now more) b t (send-precedes bytes b t) (says-precedes more d.state.ledger d.state.inner) m
-  says-precedes (said.WantsBody max ∷ more) b s m =
-      let t = record s { client = record s.client { limit = max } } in
-      let d = went (await_body site now) b t in
-      both-precede (await_body site now) (says site now more) b t (await_body-precedes b t) (says-precedes more d.state.ledger d.state.inner) m
-  says-precedes (said.WantsNoBody ∷ more) b s m =
-      let d = went (end_timer site now timer.Body) b s in
-      both-precede (end_timer site now timer.Body) (says site now more) b s (end_timer-precedes timer.Body b s) (says-precedes more d.state.ledger d.state.inner) m
-  says-precedes (said.WantsAllTaken ∷ more) b s m = says-precedes more b s m
-  says-precedes (said.Ended closes ∷ more) b s m = says-precedes more b (record s { client = record s.client { reply = Whole closes } }) m
-  says-precedes (said.Over ∷ more) b s m =
+  pub says-precedes : (w : Said) (b : Ledger J) (s : Both R) → Precedes (says site now w) b s
+  says-precedes (said.Send bytes) b s m = send-precedes bytes b (record s { client = record s.client { reply = begun s.client.reply } }) m
+  says-precedes said.WantsNoBody b s m = end_timer-precedes timer.Body b s m
+  says-precedes (said.Times times) b s m = refl
+  says-precedes (said.Ended closes) b s m = refl
+  says-precedes said.Over b s m =
       both-precede (end_timer site now timer.Body) (change (λ c. record c { stage = stage.Flush })) b s (end_timer-precedes timer.Body b s) (λ m. refl) m
+
+  -- a prefix behind an act that is there or not
+  act-precedes : (c : Bool) (a : Act J) (f : Move J (Both R) → Move J (Both R)) (b : Ledger J) (s : Both R) → Precedes f b s → (m : Move J (Both R))
+      → after_act_if c a (perform (f m) b s) ≡ followed (after_act_if c a (perform (f Done) b s)) m
+  act-precedes true a f b s h m = ap (after_act_if true a) (h m)
+  act-precedes false a f b s h m = ap (after_act_if false a) (h m)
+
+  -- deeds before other moves come to a prefix of all
+  pub deeds-precede : (ds : List Deed) (b : Ledger J) (s : Both R) → Precedes (lifted (says site now) ds) b s
+  deeds-precede [] b s m = refl
+  deeds-precede (Say w ∷ ds) b s m =
+      let d = went (says site now w) b s in
+      both-precede (says site now w) (lifted (says site now) ds) b s (says-precedes w b s) (deeds-precede ds d.state.ledger d.state.inner) m
+  deeds-precede (deed.Ready k ∷ ds) b s m =
+      act-precedes (not (has_number k b.threads)) (act.Ready k) (lifted (says site now) ds) (with_thread k b) s (deeds-precede ds (with_thread k b) s) m
+  deeds-precede (deed.Unready k ∷ ds) b s m = act-precedes true (act.Unready k) (lifted (says site now) ds) (without_thread k b) s (deeds-precede ds (without_thread k b) s) m
+  deeds-precede (deed.Send k bytes ∷ ds) b s m =
+      let c = with_sent (place.Sock k) bytes b in
+      act-precedes (wants_offer (place.Sock k) c) (act.Offer (place.Sock k)) (lifted (says site now) ds) (with_offer (place.Sock k) c) s (deeds-precede ds (with_offer (place.Sock k) c) s) m
+  deeds-precede (deed.Arm k at ∷ ds) b s m =
+      act-precedes true (act.Arm (suc (suc k)) at) (lifted (says site now) ds) (with_deadline (suc (suc k)) at b) s (deeds-precede ds (with_deadline (suc (suc k)) at b) s) m
+  deeds-precede (deed.Cancel k ∷ ds) b s m =
+      act-precedes true (act.Cancel (suc (suc k))) (lifted (says site now) ds) (without_deadline (suc (suc k)) b) s (deeds-precede ds (without_deadline (suc (suc k)) b) s) m
+  deeds-precede (deed.HangUp k ∷ ds) b s m =
+      act-precedes (has (place.Sock k) b.opened) (act.HangUp (place.Sock k)) (lifted (says site now) ds) (hung_up (place.Sock k) b) s (deeds-precede ds (hung_up (place.Sock k) b) s) m
+  deeds-precede (deed.Log line ∷ ds) b s m = act-precedes true (act.Log line) (lifted (says site now) ds) b s (deeds-precede ds b s) m

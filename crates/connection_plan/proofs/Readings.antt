@@ -181,3 +181,11 @@ begins-so bytes asked h =
     let are : AreRequests bytes x.0 x.1.0 = subst (λ (b : List ℕ). AreRequests b x.0 x.1.0) (append-nil bytes) x.1.1.0 in
     let same = one-reading bytes x.0 (requests bytes) x.1.0 (last_answer bytes) are (are-requests bytes) in
     (x.1.1.1.0, x.1.1.1.1 ∙ ap (λ (rs : List Request). asked_by rs x.1.0) same.0 ∙ ap (λ (a : LineOut). asked_by (requests bytes) a) same.1)
+
+-- where the bytes that are held ask nothing, all that the bytes ask was asked
+pub asks-all : (came : Came) (bytes : List ℕ) (asked : List LineOut) → Follows came [] bytes asked → ReadsOn came [] [] out.Waiting → asked ≡ asked_in bytes
+asks-all came bytes asked h none =
+    let x : AskAlso (bytes ++ []) asked [] out.Waiting = h [] [] out.Waiting none in
+    let are : AreRequests bytes x.0 out.Waiting = subst (λ (b : List ℕ). AreRequests b x.0 out.Waiting) (append-nil bytes) x.1 in
+    let same = one-reading bytes x.0 (requests bytes) out.Waiting (last_answer bytes) are (are-requests bytes) in
+    sym (append-nil asked) ∙ sym x.2 ∙ ap (λ (rs : List Request). asked_by rs out.Waiting) same.0 ∙ ap (λ (a : LineOut). asked_by (requests bytes) a) same.1

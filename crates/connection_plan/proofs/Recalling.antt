@@ -1,5 +1,5 @@
 -- A run whose reply tells what was sent before meets the contract.
-use Rattle.std.proofs.Common.{◌≡◌, ℕ, ◌≤◌, ◌<◌, Bool, true, false, List, [], ◌∷◌, drop, Some, None, if◌then◌else◌, refl, sym, ap, ◌∙◌, subst, lit<}
+use Rattle.std.proofs.Common.{◌≡◌, ℕ, ◌≤◌, ◌<◌, Bool, true, false, List, [], ◌∷◌, drop, Some, None, if◌then◌else◌, refl, sym, ap, ◌∙◌, subst}
 use Rattle.strand_contract.specs.declared.turns.Place.TheVariants as place
 use Rattle.strand_contract.specs.declared.turns.Answer.{Answer}
 use Rattle.strand_contract.specs.Actions.{Action, Did, Offer}
@@ -10,9 +10,8 @@ use Rattle.run_contract.specs.declared.turns.RunSeen.{RunSeen}
 use Rattle.run_contract.specs.declared.turns.RunSeen.TheVariants as seen
 use Rattle.run_contract.specs.declared.turns.SockSeen.{SockSeen}
 use Rattle.run_contract.specs.declared.turns.SockSeen.TheVariants as at
-use Rattle.run_contract.specs.Runs.{performed, waits_told, is_of_client, waits_at_first}
+use Rattle.run_contract.specs.Runs.{waits_told, is_of_client, waits_at_first}
 use Rattle.run_contract.specs.Alike.{AreAlike}
-use Rattle.run_contract.specs.Forms.{IsOwn}
 use Rattle.run_contract.specs.Conditions.{IsBlank, MayComeAt, MayCome, Leaves, entered_as, IsRun}
 use Rattle.run_contract.specs.StoredLaws.{own-due, not-below}
 use Rattle.connection_plan.specs.Recalls.{recalls_turn, recalls_plan, RecallsHolds, recalls_site, recalled}
@@ -54,11 +53,11 @@ blank : {J : Type 0} (b : Ledger J) (r : Bool) → IsBlank b → RecallsHolds b 
 blank b r h = record { threads = ap (drop 1) h.no_thread; asked = h.none_asked; no_deadline = h.no_deadline; no_socket = h.no_socket; unused = h.unused }
 
 stays : {J : Type 0} (now : ℕ) (s : RunSeen) (b : Ledger J) (r : Bool) → RecallsHolds b r → MayCome recalls_plan now s b r
-    → Leaves recalls_plan RecallsHolds (waits_told s (waits_at_first r)) (recalls_turn now s (entered_as s b) r) (entered_as s b) r
+    → Leaves recalls_plan RecallsHolds (waits_told s (waits_at_first r)) (recalls_turn now s (entered_as s b) r) (entered_as s b)
 stays now (seen.Run k) b r h x = record {
   known = record { threads = ap (drop 1) h.threads; asked = refl; no_deadline = h.no_deadline; no_socket = h.no_socket; unused = h.unused };
   waits = refl;
-  over = λ e. record { no_thread = h.threads; no_deadline = h.no_deadline; no_socket = h.no_socket; none_asked = refl; unused = h.unused };
+  over = λ e. (record { no_thread = h.threads; no_deadline = h.no_deadline; no_socket = h.no_socket; none_asked = refl; unused = h.unused }, refl);
 }
 stays now seen.ClientGone b r h x = record {
   known = record { threads = h.threads; asked = h.asked; no_deadline = h.no_deadline; no_socket = h.no_socket; unused = h.unused };
@@ -66,23 +65,31 @@ stays now seen.ClientGone b r h x = record {
   over = λ e. never e;
 }
 stays now (seen.Due n) b r h x = absurd (own-due now n x.0.at b.armed x.0.first (not-below n x.1) h.no_deadline)
-stays now (seen.Sock k s) b r h x = none-comes b r k s h x
-stays now (seen.Body content waited) b r h x = never x.1
-stays now (seen.BodyRefused code) b r h x = never x.1
-stays now seen.AllTaken b r h x = never x.1
+stays now (seen.Sock k s) b r h x = none-comes b r k s h x.0
+stays now (seen.Body content waited) b r h x = never x.1.0
+stays now (seen.BodyRefused code) b r h x = never x.1.0
+stays now seen.AllTaken b r h x = never x.1.0
+stays now seen.NotYet b r h x = never x.1
+stays now seen.ClientEnded b r h x = record {
+  known = record { threads = h.threads; asked = h.asked; no_deadline = h.no_deadline; no_socket = h.no_socket; unused = h.unused };
+  waits = refl;
+  over = λ e. never e;
+}
 
 unanswered : {J C : Type 0} (b : Ledger J) (r : Bool) (x : Action J) (a : Answer) → RecallsHolds b r → answered (asking_if b.asked) a ≡ Some x → C
 unanswered b r x a h e = none-some x (sym (ap (λ o. answered (asking_if o) a) h.asked) ∙ e)
 
 falls : {J : Type 0} (now : ℕ) (s : RunSeen) (b : Ledger J) (r : Bool) → RecallsHolds b r → MayCome recalls_plan now s b r → is_of_client s ≡ true
-    → (if (performed (recalls_turn now s (entered_as s b) r) (entered_as s b) r).state.inner then 1 else 0) < (if r then 1 else 0)
+    → (if (recalls_turn now s (entered_as s b) r).run then 1 else 0) < (if r then 1 else 0)
 falls now seen.ClientGone b r h x e = one-falls r x.1
 falls now (seen.Run k) b r h x e = never e
 falls now (seen.Due n) b r h x e = never e
 falls now (seen.Sock k s) b r h x e = never e
-falls now (seen.Body content waited) b r h x e = never x.1
-falls now (seen.BodyRefused code) b r h x e = never x.1
-falls now seen.AllTaken b r h x e = never x.1
+falls now (seen.Body content waited) b r h x e = never x.1.0
+falls now (seen.BodyRefused code) b r h x e = never x.1.0
+falls now seen.AllTaken b r h x e = never x.1.0
+falls now seen.NotYet b r h x e = never x.1
+falls now seen.ClientEnded b r h x e = never e
 
 apart : {J : Type 0} (b c : Ledger J) (r : Bool) → AreAlike b c → RecallsHolds b r → RecallsHolds c r
 apart b c r same h = record {
@@ -94,14 +101,9 @@ apart b c r same h = record {
       (sym (same.sent k) ∙ u.0, sym (same.taken k) ∙ u.1, sym (same.put_off k) ∙ u.2);
 }
 
-own : {J : Type 0} (now : ℕ) (s : RunSeen) (b : Ledger J) (r : Bool) → IsOwn (recalls_turn now s b r).moves
-own now (seen.Run k) b r = tt
-own now seen.ClientGone b r = tt
-own now s b r = tt
-
 pub recalls-is-run : (J : Type 0) → IsRun {J = J} recalls_plan RecallsHolds
 recalls-is-run J = record {
-  begins = λ now head target b h. record { known = blank b true h; waits = refl; over = λ e. h };
+  begins = λ now head target b h. record { known = blank b true h; waits = refl; over = λ e. (h, refl) };
   begins_job = λ now premature job b h. rw h.no_thread (record {
     known = record { threads = refl; asked = h.none_asked; no_deadline = h.no_deadline; no_socket = h.no_socket; unused = h.unused };
     waits = refl;
@@ -112,15 +114,11 @@ recalls-is-run J = record {
   falls = λ now s b r h x e. falls now s b r h x e;
   apart = λ b c r same h. apart b c r same h;
   asks = λ b r x h e. none-some x (sym h.asked ∙ e);
-  begins_by_own = λ now head target b. tt;
-  begins_job_by_own = λ now premature job b. tt;
-  moves_by_own = λ now s b r. own now s b r;
-  answers_by_own = λ now x b r. tt;
   job = λ now premature job b. (tt, refl);
   due = λ now n b r. (tt, refl);
   gone = λ now b r. (tt, refl);
-  lost = λ now k b r h x. none-comes b r k at.Lost h x;
-  again = λ now k b r h x. none-comes b r k at.Ready h x;
+  lost = λ now k b r h x. none-comes b r k at.Lost h x.0;
+  again = λ now k b r h x. none-comes b r k at.Ready h x.0;
 }
 
 -- ---- two requests that ask the same

@@ -1,18 +1,19 @@
 -- What settling does next, case by case.
-use Rattle.std.proofs.Common.{◌≡◌, ℕ, Bool, true, false, ◌&&◌, ◌||◌, if◌then◌else◌, refl, ap, ◌∙◌}
+use Rattle.std.proofs.Common.{◌≡◌, ℕ, Bool, true, false, ◌&&◌, ◌||◌, Option, Some, None, if◌then◌else◌, refl, ap, ◌∙◌}
 use Rattle.std.specs.Prelude.{not}
 use Rattle.strand_plans.specs.Ledgers.{Ledger}
 use Rattle.strand_plans.specs.Moves.{Move, Done, perform}
 use Rattle.run_contract.specs.declared.turns.RunSeen.TheVariants as seen
+use Rattle.run_contract.specs.declared.turns.Asking.{Asking}
 use Rattle.run_contract.specs.Conditions.{IsRun}
 use Rattle.connection_plan.specs.Clients.{Stage, closes_after}
 use Rattle.connection_plan.specs.Clients as stage
 use Rattle.connection_plan.specs.Services.{Service, Both}
-use Rattle.connection_plan.specs.Turns.{is_there, is_all_taken, is_to_close, finish, tell, lose, next, ask_body, settled_at, settle}
+use Rattle.connection_plan.specs.Turns.{is_there, is_all_taken, is_to_close, finish, tell, lose, next, ask_body, answer_asked, waiting, busy_at, settled_at, settle}
 use Rattle.connection_plan.proofs.Stays.{Known}
 use Rattle.connection_plan.proofs.Settling.{settling}
 
-module _ {J R : Type 0} (site : Service J R) (now : ℕ) (holds : Ledger J → R → Type 0) (run : IsRun site.runs holds) (b : Ledger J) (s : Both R) (h : Known holds b s) where
+module _ {J R : Type 0} (site : Service J R) (now : ℕ) (holds : Ledger J → R → Type 0) (run : IsRun site.runs holds) (b : Ledger J) (s : Both R) (h : Known site.runs holds b s) where
   -- settling comes to the same as these
   abbrev SettlesAs : Move J (Both R) → Type 0
   SettlesAs m = perform (settle site now) b s ≡ perform m b s
@@ -22,37 +23,44 @@ module _ {J R : Type 0} (site : Service J R) (now : ℕ) (holds : Ledger J → R
 
   -- ---- a run goes on
 
+  -- its question is answered
+  pub settles-asked : s.client.stage ≡ stage.Busy → (q : Asking) → (site.runs.waits s.run).asks ≡ Some q → SettlesAs (answer_asked site now (settle site now) b s.client q)
+  settles-asked at q e = at-stage stage.Busy at ∙ ap (λ (o : Option Asking). perform (busy_at site now o (settle site now) b s) b s) e
+
+  busy-answered : s.client.stage ≡ stage.Busy → (site.runs.waits s.run).asks ≡ None → SettlesAs (waiting site now (settle site now) b s)
+  busy-answered at e = at-stage stage.Busy at ∙ ap (λ (o : Option Asking). perform (busy_at site now o (settle site now) b s) b s) e
+
   -- all is taken, and it waits for that
-  pub settles-taken : s.client.stage ≡ stage.Busy → (is_all_taken b && (site.runs.waits s.run).taken) ≡ true → SettlesAs (tell site now seen.AllTaken (settle site now))
-  settles-taken at e =
-      at-stage stage.Busy at
+  pub settles-taken : s.client.stage ≡ stage.Busy → (site.runs.waits s.run).asks ≡ None → (is_all_taken b && (site.runs.waits s.run).taken) ≡ true → SettlesAs (tell site now seen.AllTaken (settle site now))
+  settles-taken at a e =
+      busy-answered at a
       ∙ ap (λ (c : Bool). perform (if c then tell site now seen.AllTaken (settle site now) else (if is_to_close b s.client then lose site now else (if (site.runs.waits s.run).body then ask_body site now (settle site now) b s.client else Done))) b s) e
 
-  busy-else : s.client.stage ≡ stage.Busy → (is_all_taken b && (site.runs.waits s.run).taken) ≡ false
+  busy-else : s.client.stage ≡ stage.Busy → (site.runs.waits s.run).asks ≡ None → (is_all_taken b && (site.runs.waits s.run).taken) ≡ false
       → SettlesAs (if is_to_close b s.client then lose site now else (if (site.runs.waits s.run).body then ask_body site now (settle site now) b s.client else Done))
-  busy-else at e =
-      at-stage stage.Busy at
+  busy-else at a e =
+      busy-answered at a
       ∙ ap (λ (c : Bool). perform (if c then tell site now seen.AllTaken (settle site now) else (if is_to_close b s.client then lose site now else (if (site.runs.waits s.run).body then ask_body site now (settle site now) b s.client else Done))) b s) e
 
   -- the connection closes after a reply that is taken
-  pub settles-closing : s.client.stage ≡ stage.Busy → (is_all_taken b && (site.runs.waits s.run).taken) ≡ false → is_to_close b s.client ≡ true → SettlesAs (lose site now)
-  settles-closing at e f =
-      busy-else at e ∙ ap (λ (c : Bool). perform (if c then lose site now else (if (site.runs.waits s.run).body then ask_body site now (settle site now) b s.client else Done)) b s) f
+  pub settles-closing : s.client.stage ≡ stage.Busy → (site.runs.waits s.run).asks ≡ None → (is_all_taken b && (site.runs.waits s.run).taken) ≡ false → is_to_close b s.client ≡ true → SettlesAs (lose site now)
+  settles-closing at a e f =
+      busy-else at a e ∙ ap (λ (c : Bool). perform (if c then lose site now else (if (site.runs.waits s.run).body then ask_body site now (settle site now) b s.client else Done)) b s) f
 
-  busy-open : s.client.stage ≡ stage.Busy → (is_all_taken b && (site.runs.waits s.run).taken) ≡ false → is_to_close b s.client ≡ false
+  busy-open : s.client.stage ≡ stage.Busy → (site.runs.waits s.run).asks ≡ None → (is_all_taken b && (site.runs.waits s.run).taken) ≡ false → is_to_close b s.client ≡ false
       → SettlesAs (if (site.runs.waits s.run).body then ask_body site now (settle site now) b s.client else Done)
-  busy-open at e f =
-      busy-else at e ∙ ap (λ (c : Bool). perform (if c then lose site now else (if (site.runs.waits s.run).body then ask_body site now (settle site now) b s.client else Done)) b s) f
+  busy-open at a e f =
+      busy-else at a e ∙ ap (λ (c : Bool). perform (if c then lose site now else (if (site.runs.waits s.run).body then ask_body site now (settle site now) b s.client else Done)) b s) f
 
   -- the body is asked for, where it waits for that
-  pub settles-body : s.client.stage ≡ stage.Busy → (is_all_taken b && (site.runs.waits s.run).taken) ≡ false → is_to_close b s.client ≡ false
+  pub settles-body : s.client.stage ≡ stage.Busy → (site.runs.waits s.run).asks ≡ None → (is_all_taken b && (site.runs.waits s.run).taken) ≡ false → is_to_close b s.client ≡ false
       → (site.runs.waits s.run).body ≡ true → SettlesAs (ask_body site now (settle site now) b s.client)
-  settles-body at e f g = busy-open at e f ∙ ap (λ (c : Bool). perform (if c then ask_body site now (settle site now) b s.client else Done) b s) g
+  settles-body at a e f g = busy-open at a e f ∙ ap (λ (c : Bool). perform (if c then ask_body site now (settle site now) b s.client else Done) b s) g
 
   -- it waits for nothing that is there
-  pub settles-waiting : s.client.stage ≡ stage.Busy → (is_all_taken b && (site.runs.waits s.run).taken) ≡ false → is_to_close b s.client ≡ false
+  pub settles-waiting : s.client.stage ≡ stage.Busy → (site.runs.waits s.run).asks ≡ None → (is_all_taken b && (site.runs.waits s.run).taken) ≡ false → is_to_close b s.client ≡ false
       → (site.runs.waits s.run).body ≡ false → SettlesAs Done
-  settles-waiting at e f g = busy-open at e f ∙ ap (λ (c : Bool). perform (if c then ask_body site now (settle site now) b s.client else Done) b s) g
+  settles-waiting at a e f g = busy-open at a e f ∙ ap (λ (c : Bool). perform (if c then ask_body site now (settle site now) b s.client else Done) b s) g
 
   -- ---- a run is over, or a head was refused
 

@@ -32,7 +32,6 @@ asked_by (r ∷ rs) answer = out.Request r.head r.target ∷ asked_by rs answer
 abbrev pub asked_in : List ℕ → List LineOut
 asked_in bytes = asked_by (requests bytes) (last_answer bytes)
 
--- what was taken so far is a beginning of what all bytes that came ask; that each whole request is begun in the end follows from the plan, and no
--- law restates it
+-- what was taken so far is a beginning of what all bytes that came ask
 abbrev pub AsksInOrder : {J R : Type 0} → List (LocalAction J) → State J (Both R) → Type 0
 AsksInOrder es st = IsPrefixOf (asked_so_far st.inner.client.exchanges) (asked_in (bytes_of es))

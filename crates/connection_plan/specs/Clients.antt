@@ -6,6 +6,7 @@ use Rattle.client_line.specs.declared.requests.LineOut.{LineOut}
 use Rattle.client_line.specs.declared.requests.LineOut.TheVariants as out
 use Rattle.client_line.specs.Records.{Came}
 use Rattle.client_line.specs.Lines.{nothing}
+use Rattle.run_contract.specs.declared.turns.LocationTimes.{LocationTimes}
 
 -- how long is waited, in milliseconds: for a head, for the next request, for more of a body, until the client takes bytes
 pub record Times : Type 0 where
@@ -56,7 +57,7 @@ pub record Client : Type 0 where
   -- the bytes that came, and what is read next of them
   pub came : Came
   pub stage : Stage
-  -- those of the request; before the first one, and after a head that is refused, those of the default server
+  -- those of the request, or of the location that its run told last; before the first one, and after a head that is refused, those of the default server
   pub times : Times
   pub reply : Reply
   -- the most bytes that the body may have for which the run waits
@@ -96,6 +97,10 @@ with_request head target times c = record c {
 -- as a head is refused, with the times of the default server
 abbrev pub with_refusal : (code : ℕ) → Times → Client → Client
 with_refusal code times c = record c { stage = Flush; times = times; reply = Whole true; exchanges = exchange (out.Refused code) [] ∷ c.exchanges }
+
+-- another location answers the request: a head is waited for by the default server's time all the same
+abbrev pub with_times : LocationTimes → Client → Client
+with_times t c = record c { times = record c.times { keepalive = t.keepalive.0; body = t.body.0; send = t.send.0 } }
 
 -- more of the reply is sent
 abbrev pub begun : Reply → Reply

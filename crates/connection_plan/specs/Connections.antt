@@ -1,6 +1,6 @@
 -- A strand that serves a client's requests, or is a timer job, as a plan: what each action makes it do.
 -- Threads, and deadlines from 2 on, are the run's; the deadlines 0 and 1 are the timers' of the connection.
-use Rattle.std.specs.Prelude.{ℕ, zero, suc, true, false, [], length}
+use Rattle.std.specs.Prelude.{ℕ, zero, suc, true, false, [], length, if◌then◌else◌}
 use Rattle.strand_contract.specs.declared.turns.Place.TheVariants as place
 use Rattle.strand_contract.specs.declared.turns.Start.TheVariants as start
 use Rattle.strand_contract.specs.Actions.{Action, LocalAction, Did, Began, Bytes, Ended, Broken, Ready, Dialled, Refused}
@@ -18,7 +18,7 @@ use Rattle.connection_plan.specs.Clients.{Stage, new_client}
 use Rattle.connection_plan.specs.Clients as stage
 use Rattle.connection_plan.specs.Services.{Service, Both}
 use Rattle.connection_plan.specs.Timers as timer
-use Rattle.connection_plan.specs.Turns.{change, begin_timer, end_timer, finish, await_body, run_turn, tell, lose, heard, settle}
+use Rattle.connection_plan.specs.Turns.{change, begin_timer, end_timer, finish, await_body, waits_of, run_turn, tell, lose, heard, settle}
 
 module _ {J R : Type 0} (site : Service J R) (now : ℕ) where
   abbrev Moves : Type 0
@@ -38,11 +38,12 @@ module _ {J R : Type 0} (site : Service J R) (now : ℕ) where
   came_at stage.Drop f s = heard site now true (settle site now) s.client.ended f
   came_at st f s = change (λ c. record c { came = f.after }) Done
 
-  -- the client sends no more: what it asked for is still answered
-  abbrev pub ends_at : Stage → Moves
-  ends_at stage.Busy = change (λ c. record c { ended = true }) (settle site now)
-  ends_at stage.Flush = change (λ c. record c { ended = true }) Done
-  ends_at st = finish
+  -- the client sends no more: a run that goes on is told, and what the client asked for is still answered
+  abbrev pub ends_at : Stage → Both R → Moves
+  ends_at stage.Busy s = change (λ c. record c { ended = true })
+      (if (waits_of site now s).client then tell site now seen.ClientEnded (settle site now) else settle site now)
+  ends_at stage.Flush s = change (λ c. record c { ended = true }) Done
+  ends_at st s = finish
 
   -- a run that goes on is told this, and then these come
   abbrev pub to_run : Moves → Stage → RunSeen → Moves
@@ -66,7 +67,7 @@ module _ {J R : Type 0} (site : Service J R) (now : ℕ) where
   abbrev pub connection_turn : LocalAction J → Ledger J → Both R → Moves
   connection_turn (Did (Began at begin)) b s = starts (Did (Began at begin)) b
   connection_turn (Did (Bytes place.Client bytes)) b s = came_at s.client.stage (fed s.client.came bytes) s
-  connection_turn (Did (Ended place.Client)) b s = ends_at s.client.stage
+  connection_turn (Did (Ended place.Client)) b s = ends_at s.client.stage s
   connection_turn (Did (Broken place.Client)) b s = lose site now
   connection_turn (Did (Ready place.Client)) b s = end_timer site now timer.Send (Send place.Client [] Done)
   connection_turn (Did (Put place.Client bytes)) b s = settle site now

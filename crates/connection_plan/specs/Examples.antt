@@ -12,13 +12,13 @@ use Rattle.strand_contract.specs.declared.turns.Start.TheVariants as start
 use Rattle.strand_contract.specs.declared.turns.Act.{Act}
 use Rattle.strand_contract.specs.Actions.{LocalAction, Did, Began, Bytes, Put}
 use Rattle.strand_plans.specs.Ledgers.{Ledger, has}
-use Rattle.strand_plans.specs.Moves.{Done, Set}
-use Rattle.strand_plans.specs.Moves as move
 use Rattle.strand_plans.specs.Plans.{state_of, acts_of}
 use Rattle.run_contract.specs.declared.turns.RunSeen.{RunSeen}
 use Rattle.run_contract.specs.declared.turns.RunSeen.TheVariants as seen
 use Rattle.run_contract.specs.declared.turns.Said.TheVariants as said
-use Rattle.run_contract.specs.Runs.{Turn, Waits, RunPlan, waits_at_first}
+use Rattle.run_contract.specs.declared.turns.Asking.TheVariants as asking
+use Rattle.run_contract.specs.Deeds.{Ready, Say, Turn, Nothing, Within}
+use Rattle.run_contract.specs.Runs.{Waits, RunPlan, waits_at_first}
 use Rattle.run_contract.specs.Alike.{own_deadlines}
 use Rattle.run_contract.specs.Conditions.{IsUnused}
 use Rattle.connection_plan.specs.Clients.{Times}
@@ -28,35 +28,47 @@ use Rattle.connection_plan.specs.Connections.{connection_plan}
 -- how far a run has come that replies with the path of its request, or with its body, of at most five bytes
 pub data Echo : Type 0 where
   Fresh : Echo
+  -- it asked for the body and has no answer; it was told that the body isn't there yet
+  Asked : (keep : Bool) → Echo
   Reading : (keep : Bool) → Echo
   Replied : Echo
   -- its client is gone
   Left : Echo
 
 abbrev pub echo_waits : Echo → Waits
-echo_waits (Reading keep) = record { body = true; taken = false; client = true }
+echo_waits (Asked keep) = record { body = false; taken = false; client = true; asks = Some (asking.Body 5) }
+echo_waits (Reading keep) = record { body = true; taken = false; client = true; asks = None }
 echo_waits Left = waits_at_first false
 echo_waits e = waits_at_first true
 
 abbrev pub echo_told : Echo → ℕ
+echo_told (Asked keep) = 3
 echo_told (Reading keep) = 2
 echo_told Left = 0
 echo_told e = 1
 
+abbrev pub silent : {J : Type 0} → Echo → Turn J Echo
+silent r = record { does = []; asks = Nothing; run = r }
+
 -- the whole reply, after which nothing is left
 abbrev pub replies : {J : Type 0} → List ℕ → Bool → Turn J Echo
-replies bytes keep = record { moves = Set (λ r. Replied) Done; said = said.Send bytes ∷ said.Ended (not keep) ∷ said.Over ∷ [] }
+replies bytes keep = record { does = Say (said.Send bytes) ∷ Say (said.Ended (not keep)) ∷ Say said.Over ∷ []; asks = Nothing; run = Replied }
+
+-- its client is gone, and a thread of it runs to end it
+abbrev pub leaves : {J : Type 0} → Turn J Echo
+leaves = record { does = Ready 0 ∷ []; asks = Nothing; run = Left }
 
 abbrev pub echo_begun : {J : Type 0} → Bool → Head → Target → Turn J Echo
-echo_begun reads head target =
-    if reads then record { moves = Set (λ r. Reading head.keep) Done; said = said.WantsBody 5 ∷ [] } else replies target.path head.keep
+echo_begun reads head target = if reads then record { does = []; asks = Within (asking.Body 5); run = Asked head.keep } else replies target.path head.keep
 
 abbrev pub echo_turn : {J : Type 0} → ℕ → RunSeen → Ledger J → Echo → Turn J Echo
+echo_turn now (seen.Body content waited) b (Asked keep) = replies content keep
 echo_turn now (seen.Body content waited) b (Reading keep) = replies content keep
 echo_turn now (seen.BodyRefused code) b r = replies (code ∷ []) false
-echo_turn now seen.ClientGone b r = record { moves = Set (λ r. Left) (move.Ready 0 Done); said = [] }
-echo_turn now (seen.Run k) b r = record { moves = Done; said = said.Over ∷ [] }
-echo_turn now s b r = record { moves = Done; said = [] }
+echo_turn now seen.NotYet b (Asked keep) = silent (Reading keep)
+echo_turn now seen.ClientGone b r = leaves
+echo_turn now (seen.Run k) b r = record { does = Say said.Over ∷ []; asks = Nothing; run = r }
+echo_turn now s b r = silent r
 
 abbrev pub echo_plan : {J : Type 0} → (reads : Bool) → RunPlan J Echo
 echo_plan reads = record {
@@ -64,9 +76,9 @@ echo_plan reads = record {
   waits = echo_waits;
   tells_left = echo_told;
   begun = λ now head target b. echo_begun reads head target;
-  begun_job = λ now premature job b. record { moves = Set (λ r. Left) (move.Ready 0 Done); said = [] };
+  begun_job = λ now premature job b. leaves;
   turn = echo_turn;
-  answered = λ now x b r. record { moves = Done; said = [] };
+  answered = λ now x b r. silent r;
   zones = 0;
   zone_name = λ n. [];
   zone_size = λ n. 0;

@@ -10,5 +10,6 @@ pub mod Asked
 pub mod InStep
 pub mod Examples
 pub mod Recalls
+pub mod Scripts
 pub mod Serving
 pub mod Stored

@@ -3,13 +3,12 @@ use Rattle.std.specs.Prelude.{◌≡◌, ℕ, ◌≤◌, Bool, true, false, List
 use Rattle.strand_contract.specs.declared.turns.Place.TheVariants as place
 use Rattle.strand_contract.specs.Actions.{LocalAction}
 use Rattle.strand_plans.specs.Ledgers.{Ledger, has}
-use Rattle.strand_plans.specs.Moves.{Done, Set}
-use Rattle.strand_plans.specs.Moves as move
 use Rattle.strand_plans.specs.Plans.{state_of}
 use Rattle.run_contract.specs.declared.turns.RunSeen.{RunSeen}
 use Rattle.run_contract.specs.declared.turns.RunSeen.TheVariants as seen
 use Rattle.run_contract.specs.declared.turns.Said.TheVariants as said
-use Rattle.run_contract.specs.Runs.{Turn, RunPlan, waits_at_first}
+use Rattle.run_contract.specs.Deeds.{Ready, Say, Turn, Nothing}
+use Rattle.run_contract.specs.Runs.{RunPlan, waits_at_first}
 use Rattle.run_contract.specs.Alike.{own_deadlines}
 use Rattle.run_contract.specs.Conditions.{IsUnused}
 use Rattle.connection_plan.specs.Services.{Service}
@@ -18,9 +17,9 @@ use Rattle.connection_plan.specs.Examples.{example_times}
 
 -- it keeps whether it has a client
 abbrev pub recalls_turn : {J : Type 0} → ℕ → RunSeen → Ledger J → Bool → Turn J Bool
-recalls_turn now (seen.Run k) b r = record { moves = Done; said = said.Over ∷ [] }
-recalls_turn now seen.ClientGone b r = record { moves = Set (λ r. false) Done; said = [] }
-recalls_turn now s b r = record { moves = Done; said = [] }
+recalls_turn now (seen.Run k) b r = record { does = Say said.Over ∷ []; asks = Nothing; run = r }
+recalls_turn now seen.ClientGone b r = record { does = []; asks = Nothing; run = false }
+recalls_turn now s b r = record { does = []; asks = Nothing; run = r }
 
 -- all that was sent to the client before, after a byte
 abbrev pub recalls_plan : {J : Type 0} → RunPlan J Bool
@@ -28,10 +27,14 @@ recalls_plan = record {
   unborn = true;
   waits = waits_at_first;
   tells_left = λ r. if r then 1 else 0;
-  begun = λ now head target b. record { moves = Done; said = said.Send (1 ∷ b.sent place.Client) ∷ said.Ended false ∷ said.Over ∷ [] };
-  begun_job = λ now premature job b. record { moves = Set (λ r. false) (move.Ready 0 Done); said = [] };
+  begun = λ now head target b. record {
+    does = Say (said.Send (1 ∷ b.sent place.Client)) ∷ Say (said.Ended false) ∷ Say said.Over ∷ [];
+    asks = Nothing;
+    run = true;
+  };
+  begun_job = λ now premature job b. record { does = Ready 0 ∷ []; asks = Nothing; run = false };
   turn = recalls_turn;
-  answered = λ now x b r. record { moves = Done; said = [] };
+  answered = λ now x b r. record { does = []; asks = Nothing; run = r };
   zones = 0;
   zone_name = λ n. [];
   zone_size = λ n. 0;

@@ -23,8 +23,11 @@ use Rattle.run_contract.specs.declared.turns.RunSeen.{RunSeen}
 use Rattle.run_contract.specs.declared.turns.RunSeen.TheVariants as seen
 use Rattle.run_contract.specs.declared.turns.Said.{Said}
 use Rattle.run_contract.specs.declared.turns.Said.TheVariants as said
-use Rattle.run_contract.specs.Runs.{Turn, Waits}
-use Rattle.connection_plan.specs.Clients.{Stage, Reply, Client, Unsent, Whole, with_more, with_request, with_refusal, begun, closes_after, is_last}
+use Rattle.run_contract.specs.declared.turns.Asking.{Asking}
+use Rattle.run_contract.specs.declared.turns.Asking.TheVariants as asking
+use Rattle.run_contract.specs.Deeds.{Turn, Asks, Outside}
+use Rattle.run_contract.specs.Runs.{Waits}
+use Rattle.connection_plan.specs.Clients.{Stage, Reply, Client, Unsent, Whole, with_more, with_request, with_refusal, with_times, begun, closes_after, is_last}
 use Rattle.connection_plan.specs.Clients as stage
 use Rattle.connection_plan.specs.Services.{Service, Both}
 use Rattle.connection_plan.specs.Timers.{Timer, number_of, time_of, later}
@@ -95,7 +98,7 @@ module _ {J R : Type 0} (site : Service J R) (now : ℕ) where
   abbrev pub end_timer : Timer → Moves → Moves
   end_timer t m = Look (λ b s. if has_number (number_of t) (numbers b.armed) then Cancel (number_of t) m else m)
 
-  -- ---- what a run says
+  -- ---- a turn of the run
 
   -- while nothing of the reply was sent, the first wait for more of a body lets the client send it
   abbrev pub let_send : Client → Reply → Moves → Moves
@@ -104,26 +107,34 @@ module _ {J R : Type 0} (site : Service J R) (now : ℕ) where
       else change (λ c. record c { waited = true }) (if c.expects then send continue_reply m else m)
   let_send c reply m = m
 
-  -- the run waits for more of the body, and the client may send it
-  abbrev pub awaits_body : Ledger J → Both R → Bool
-  awaits_body b s = (waits_of s).body && is_there b && not s.client.ended && is_more (body_answer s.client.came s.client.limit)
+  -- the body isn't whole, and its client can send more
+  abbrev pub may_come : Ledger J → Client → Bool
+  may_come b c = is_there b && not c.ended && is_more (body_answer c.came c.limit)
 
+  -- it is waited for, from now on
+  abbrev pub wait_more : Client → Moves → Moves
+  wait_more c m = let_send c c.reply (begin_timer timer.Body m)
+
+  -- a piece of the body came: where more of it is waited for, the timer begins anew
   abbrev pub await_body : Moves → Moves
-  await_body m = Look (λ b s. if awaits_body b s then let_send s.client s.client.reply (begin_timer timer.Body m) else m)
+  await_body m = Look (λ b s. if (waits_of s).body && may_come b s.client then wait_more s.client m else m)
 
-  -- what is said after the end doesn't count
-  abbrev pub says : List Said → Moves → Moves
-  says [] m = m
-  says (said.Send bytes ∷ more) m = change (λ c. record c { reply = begun c.reply }) (send bytes (says more m))
-  says (said.WantsBody max ∷ more) m = change (λ c. record c { limit = max }) (await_body (says more m))
-  says (said.WantsNoBody ∷ more) m = end_timer timer.Body (says more m)
-  says (said.WantsAllTaken ∷ more) m = says more m
-  says (said.Ended closes ∷ more) m = change (λ c. record c { reply = Whole closes }) (says more m)
-  says (said.Over ∷ more) m = end_timer timer.Body (change (λ c. record c { stage = stage.Flush }) m)
+  -- a word of the run, and these after it
+  abbrev pub says : Said → Moves → Moves
+  says (said.Send bytes) m = change (λ c. record c { reply = begun c.reply }) (send bytes m)
+  says said.WantsNoBody m = end_timer timer.Body m
+  says (said.Times times) m = change (with_times times) m
+  says (said.Ended closes) m = change (λ c. record c { reply = Whole closes }) m
+  says said.Over m = end_timer timer.Body (change (λ c. record c { stage = stage.Flush }) m)
 
-  -- a turn of the run: its moves, what it says, and then these, or the question that it waits for
+  -- a question to the outside ends the turn; one to the connection is answered as it settles
+  abbrev pub asks_then : Asks J → Moves → Moves
+  asks_then (Outside x) m = ask x m
+  asks_then a m = m
+
+  -- a turn of the run: the run comes to what the turn leaves, its deeds are done in order, and then these come, or its question to the outside
   abbrev pub run_turn : Turn J R → Moves → Moves
-  run_turn t m = lifted t.moves (says t.said m) (λ x. says t.said (ask x m))
+  run_turn t m = Set (λ s. record s { run = t.run }) (lifted says t.does (asks_then t.asks m))
 
   abbrev pub tell : RunSeen → Moves → Moves
   tell s m = Look (λ b st. run_turn (site.runs.turn now s b st.run) m)
@@ -175,21 +186,47 @@ module _ {J R : Type 0} (site : Service J R) (now : ℕ) where
   abbrev pub next : Moves → Client → Moves
   next rest c = heard true rest c.ended (fed (done c.came) [])
 
-  -- ---- what a run waits for that is there
+  -- ---- what a run asked or waits for
 
   abbrev pub tell_body : Moves → Option RunSeen → Moves
   tell_body again None = Done
   tell_body again (Some s) = end_timer timer.Body (tell s again)
 
+  -- a run that waits for the body is told once that is there, or refused
   abbrev pub ask_body : Moves → Ledger J → Client → Moves
   ask_body again b c =
       change (λ c. record c { came = after_asked c.came c.limit })
       (tell_body again (body_told (is_there b && not c.ended) c (body_answer c.came c.limit)))
 
-  abbrev pub busy : Moves → Ledger J → Both R → Moves
-  busy again b s =
+  -- one that asks for it is told at once; while more can come, that it isn't there yet, and more is waited for
+  abbrev pub answer_body : Moves → Option RunSeen → Moves
+  answer_body again None = Look (λ b s. wait_more s.client (tell seen.NotYet again))
+  answer_body again (Some s) = end_timer timer.Body (tell s again)
+
+  -- not all is taken where the client is there and something is left for it
+  abbrev pub taken_answer : Ledger J → RunSeen
+  taken_answer b = if is_all_taken b then seen.AllTaken else seen.NotYet
+
+  -- what it asked its connection
+  abbrev pub answer_asked : Moves → Ledger J → Client → Asking → Moves
+  answer_asked again b c (asking.Body max) =
+      change (λ c. record c { limit = max; came = after_asked c.came max })
+      (answer_body again (body_told (is_there b && not c.ended) (record c { limit = max }) (body_answer c.came max)))
+  answer_asked again b c asking.AllTaken = tell (taken_answer b) again
+
+  -- what it waits for; a reply that was the last of the connection ends that once it is taken
+  abbrev pub waiting : Moves → Ledger J → Both R → Moves
+  waiting again b s =
       if is_all_taken b && (waits_of s).taken then tell seen.AllTaken again
       else (if is_to_close b s.client then lose else (if (waits_of s).body then ask_body again b s.client else Done))
+
+  -- a question is answered before all else
+  abbrev pub busy_at : Option Asking → Moves → Ledger J → Both R → Moves
+  busy_at (Some q) again b s = answer_asked again b s.client q
+  busy_at None again b s = waiting again b s
+
+  abbrev pub busy : Moves → Ledger J → Both R → Moves
+  busy again b s = busy_at (waits_of s).asks again b s
 
   -- the run is over: once all is taken the connection closes, or goes on with the next request
   abbrev pub flush : Moves → Ledger J → Client → Moves

@@ -19,6 +19,8 @@ ghost use Rattle.strand_plans.specs.Ledgers.{Ledger};
 ghost use Rattle.strand_plans.specs.Moves.{perform};
 ghost use Rattle.strand_plans.specs.Plans.{state_of};
 ghost use Rattle.strand_plans.specs.Conditions.{IsPlan};
+ghost use Rattle.run_contract.specs.declared.turns.Asking.TheVariants as asking;
+ghost use Rattle.run_contract.specs.Deeds.{Send};
 ghost use Rattle.run_contract.specs.Conditions.{IsRun};
 ghost use Rattle.connection_plan.specs.Services.{Service, Both};
 ghost use Rattle.connection_plan.specs.Connections.{connection_plan, connection_behavior};
@@ -29,6 +31,8 @@ ghost use Rattle.connection_plan.specs.InStep.{IsInStep};
 ghost use Rattle.connection_plan.specs.Turns.{continue_reply, settled_at, settle};
 ghost use Rattle.connection_plan.specs.Recalls.{recalls_plan, RecallsHolds, recalled};
 ghost use Rattle.connection_plan.specs.Examples.{echo_plan, EchoHolds, Asks, began, came, took, acts, sent};
+ghost use Rattle.connection_plan.specs.Scripts.{dialled, script_sent, script_acts, script_armed, say, dials, two_threads, moves_on, reads};
+ghost use Rattle.connection_plan.specs.Scripts.{replies_elsewhere, minds_the_end};
 
 /// A site whose runs are lawful.
 pub trait Lawful {
@@ -48,7 +52,7 @@ pub trait Lawful {
 
 /// Its connections meet the conditions of a strand that goes by moves, turn by turn.
 pub fn connections_meet<S: Lawful>()
-    ensures { IsPlan (connection_plan S.service) (Knows S.holds) (MayAsk S.service) }
+    ensures { IsPlan (connection_plan S.service) (Knows S.service.runs S.holds) (MayAsk S.service) }
 {}
 
 /// So they keep the laws of a strand that don't hold of every plan.
@@ -90,7 +94,7 @@ pub fn each_request_takes_bytes()
 /// Settling does one thing and settles again: a busy run is told what it waits for, and a reply that is taken is followed by the next request or the end.
 /// So how often the definition lets it go on never shows.
 pub fn settling_goes_on<S: Lawful>()
-    ensures { (now : ℕ) (b : Ledger S.Job) (s : Both S.Inner) → Knows S.holds (record { ledger = b; inner = s }) → b.asked ≡ None
+    ensures { (now : ℕ) (b : Ledger S.Job) (s : Both S.Inner) → Knows S.service.runs S.holds (record { ledger = b; inner = s }) → b.asked ≡ None
         → let again = settle S.service now in perform again b s ≡ perform (settled_at S.service now s.client.stage again again b s) b s }
 {}
 
@@ -202,4 +206,71 @@ pub fn a_reply_may_tell_of_others<J>()
     ensures second { (bytes more rest : List ℕ) (b : ℕ) → Asks kind.Nothing false (codes "/a") bytes (b ∷ more)
         → Asks kind.Nothing false (codes "/a") (b ∷ more) rest
         → recalled (took (1 ∷ []) ∷ Did (Offer place.Client) ∷ came bytes ∷ began ∷ []) ≡ 1 ∷ 1 ∷ 1 ∷ [] }
+{}
+
+/// Acts and words of a turn keep their order: what is said before bytes are sent to a socket is offered before them, and the other way round.
+pub fn words_and_sockets()
+    ensures word_first { (bytes : List ℕ) → Asks kind.Nothing false (codes "/a") bytes []
+        → script_acts (dials (say (codes "a") ∷ Send 0 (codes "b") ∷ [])) (dialled ∷ came bytes ∷ began ∷ [])
+        ≡ act.Offer place.Client ∷ act.Offer (place.Sock 0) ∷ [] }
+    ensures socket_first { (bytes : List ℕ) → Asks kind.Nothing false (codes "/a") bytes []
+        → script_acts (dials (Send 0 (codes "b") ∷ say (codes "a") ∷ [])) (dialled ∷ came bytes ∷ began ∷ [])
+        ≡ act.Offer (place.Sock 0) ∷ act.Offer place.Client ∷ [] }
+{}
+
+/// Two threads, of which the first reads the body: where that is there both go on in one turn, in their order; else the second goes on alone, and the
+/// first with the rest of the body. The timer of the body is armed before the deadline by which the second sleeps, so at one moment it comes due first.
+pub fn two_threads_and_a_body()
+    ensures at_once { (bytes : List ℕ) → Asks (kind.Length 3) false (codes "/a") bytes (codes "hi!")
+        → script_sent (two_threads [] (asking.Body 5)) (came bytes ∷ began ∷ []) ≡ codes "child parent " }
+    ensures not_yet { (bytes : List ℕ) → Asks (kind.Length 3) false (codes "/a") bytes []
+        → script_sent (two_threads [] (asking.Body 5)) (came bytes ∷ began ∷ []) ≡ codes "parent " }
+    ensures later { (bytes : List ℕ) → Asks (kind.Length 3) false (codes "/a") bytes []
+        → script_sent (two_threads [] (asking.Body 5)) (came (codes "hi!") ∷ came bytes ∷ began ∷ []) ≡ codes "parent child " }
+    ensures in_order { (bytes : List ℕ) → Asks (kind.Length 3) false (codes "/a") bytes []
+        → script_acts (two_threads [] (asking.Body 5)) (came bytes ∷ began ∷ [])
+        ≡ act.Cancel 0 ∷ act.Arm 0 (record { 0 = 1_030 }) ∷ act.Offer place.Client ∷ act.Arm 2 (record { 0 = 1_030 }) ∷ [] }
+    ensures armed { (bytes : List ℕ) → Asks (kind.Length 3) false (codes "/a") bytes []
+        → script_armed (two_threads [] (asking.Body 5)) (came bytes ∷ began ∷ []) ≡ (0, 1_030) ∷ (2, 1_030) ∷ [] }
+{}
+
+/// The same two, of which the first waits until all that was said is taken: with nothing said both go on at once, else the first once the last byte is taken.
+pub fn two_threads_and_a_flush()
+    ensures at_once { (bytes : List ℕ) → Asks kind.Nothing false (codes "/a") bytes []
+        → script_sent (two_threads [] asking.AllTaken) (came bytes ∷ began ∷ []) ≡ codes "child parent " }
+    ensures not_yet { (bytes : List ℕ) → Asks kind.Nothing false (codes "/a") bytes []
+        → script_sent (two_threads (say (codes "first ") ∷ []) asking.AllTaken) (came bytes ∷ began ∷ []) ≡ codes "first parent " }
+    ensures in_order { (bytes : List ℕ) → Asks kind.Nothing false (codes "/a") bytes []
+        → script_acts (two_threads (say (codes "first ") ∷ []) asking.AllTaken) (came bytes ∷ began ∷ [])
+        ≡ act.Cancel 0 ∷ act.Offer place.Client ∷ act.Arm 2 (record { 0 = 1_030 }) ∷ [] }
+    ensures partly { (bytes : List ℕ) → Asks kind.Nothing false (codes "/a") bytes []
+        → script_sent (two_threads (say (codes "first ") ∷ []) asking.AllTaken)
+        (took (codes "first ") ∷ Did (Offer place.Client) ∷ came bytes ∷ began ∷ []) ≡ codes "first parent " }
+    ensures later { (bytes : List ℕ) → Asks kind.Nothing false (codes "/a") bytes []
+        → script_sent (two_threads (say (codes "first ") ∷ []) asking.AllTaken)
+        (took (codes "first parent ") ∷ Did (Offer place.Client) ∷ came bytes ∷ began ∷ []) ≡ codes "first parent child " }
+{}
+
+/// Once a run says that another location answers the request, timers that begin go by its times; one that runs already goes on.
+pub fn a_location_of_other_times()
+    ensures body { (bytes : List ℕ) → Asks (kind.Length 3) false (codes "/a") bytes []
+        → script_armed (reads (moves_on ∷ []) []) (came bytes ∷ began ∷ []) ≡ (0, 1_003) ∷ [] }
+    ensures goes_on { (bytes : List ℕ) → Asks (kind.Length 3) false (codes "/a") bytes []
+        → script_armed (reads [] (moves_on ∷ [])) (came bytes ∷ began ∷ []) ≡ (0, 1_030) ∷ [] }
+    ensures anew { (bytes : List ℕ) → Asks (kind.Length 3) false (codes "/a") bytes []
+        → script_armed (reads [] (moves_on ∷ [])) (came (1 ∷ []) ∷ came bytes ∷ began ∷ []) ≡ (0, 1_003) ∷ [] }
+    ensures send { (bytes : List ℕ) → Asks kind.Nothing false (codes "/a") bytes []
+        → script_armed replies_elsewhere (Did (Later place.Client) ∷ Did (Offer place.Client) ∷ came bytes ∷ began ∷ []) ≡ (1, 1_004) ∷ [] }
+    ensures keepalive { (bytes : List ℕ) → Asks kind.Nothing false (codes "/a") bytes []
+        → script_armed replies_elsewhere (took (codes "x") ∷ Did (Offer place.Client) ∷ came bytes ∷ began ∷ []) ≡ (0, 1_002) ∷ [] }
+{}
+
+/// A run that goes on is told that its client sends no more; what it says then is still sent, and its deadlines stay armed.
+pub fn a_client_that_ends()
+    ensures told { (bytes : List ℕ) → Asks kind.Nothing false (codes "/a") bytes []
+        → script_acts minds_the_end (Did (Ended place.Client) ∷ came bytes ∷ began ∷ []) ≡ act.Log (codes "ended") ∷ act.Offer place.Client ∷ [] }
+    ensures sent { (bytes : List ℕ) → Asks kind.Nothing false (codes "/a") bytes []
+        → script_sent minds_the_end (Did (Ended place.Client) ∷ came bytes ∷ began ∷ []) ≡ codes "bye" }
+    ensures armed { (bytes : List ℕ) → Asks kind.Nothing false (codes "/a") bytes []
+        → script_armed minds_the_end (Did (Ended place.Client) ∷ came bytes ∷ began ∷ []) ≡ (2, 1_030) ∷ [] }
 {}

@@ -17,7 +17,7 @@ use Rattle.strand_plans.specs.Ledgers.{has_number, numbers}
 use Rattle.connection_strand.specs.declared.state.Connection.{Connection}
 use Rattle.connection_strand.specs.declared.state.Turn.{Turn}
 use Rattle.connection_strand.specs.Kept.{Kept, kept}
-use Rattle.connection_strand.specs.Costs.{unit, weight_if, client_left, units, whole, Spends, Pays, Costs, Falls}
+use Rattle.connection_strand.specs.Costs.{unit, weight_if, client_left, units, whole, Spends, Pays, Costs, Falls, FallsBy}
 use Rattle.connection_strand.specs.Acts.{sockets_with}
 use Rattle.connection_strand.specs.Shown.{sock_seen}
 use Rattle.connection_strand.specs.Standing.{places}
@@ -168,9 +168,12 @@ module _ {R J : Type 0} (left : R → ℕ) (bound : ℕ) where
   paid-spends n c c' u u' h = omega arith
 
   -- the run paid for its answer
-  pub answered-falls : (c d c' : Connection R) (u u' : Turn J) → whole left bound d ≤ whole left bound c + 2 → Pays left bound unit d u c' u' → Falls left bound c u c' u'
-  answered-falls c d c' u u' few h = let e = may-end left bound c' in let n = units-hold in omega arith
+  pub given-falls : (c c' : Connection R) (u u' : Turn J) → Pays left bound unit c u c' u' → FallsBy left bound 3 c u c' u'
+  given-falls c c' u u' h = let e = may-end left bound c' in let n = units-hold in omega arith
 
-  pub answered-settled : (c d e c' : Connection R) (u v u' : Turn J) → whole left bound d ≤ whole left bound c + 2 → Pays left bound unit d u e v → Costs left bound 5 e v c' u'
-      → Falls left bound c u c' u'
-  answered-settled c d e c' u v u' few h k = let n = units-hold in omega arith
+  pub given-settled : (c d c' : Connection R) (u v u' : Turn J) → Pays left bound unit c u d v → Costs left bound 5 d v c' u' → FallsBy left bound 3 c u c' u'
+  given-settled c d c' u v u' h k = let n = units-hold in omega arith
+
+  -- and for the socket that it opened
+  pub answered-falls : (c d c' : Connection R) (u u' : Turn J) → whole left bound d ≤ whole left bound c + 2 → FallsBy left bound 3 d u c' u' → Falls left bound c u c' u'
+  answered-falls c d c' u u' few h = omega arith

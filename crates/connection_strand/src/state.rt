@@ -1,6 +1,6 @@
 //! A connection, and the turn that it takes.
 
-ghost use Rattle.std.specs.Prelude.{◌≡◌, ◌++◌, ◌∷◌, [], IfOk};
+ghost use Rattle.std.specs.Prelude.{◌≡◌, ◌++◌, ◌∷◌, [], IfOk, Ok};
 
 use crate::client::Client;
 use crate::waits::Waits;
@@ -40,5 +40,15 @@ pub(crate) fn put<J: Drop>(acts: &mut Acts<J>, act: Act<J>) -> Result<(), AllocE
     match acts.push_back(act) {
         Ok(()) => Ok(()),
         Err(_) => Err(AllocError),
+    }
+}
+
+/// Whether the turn goes on, where that was done.
+pub(crate) fn going(done: Result<(), AllocError>, on: bool) -> Result<bool, AllocError>
+    ensures { IfOk result (λ goes. (goes ≡ on) × (done ≡ Ok tt)) }
+{
+    match done {
+        Ok(()) => Ok(on),
+        Err(error) => Err(error),
     }
 }

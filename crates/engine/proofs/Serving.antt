@@ -1,5 +1,5 @@
 -- What a world reports between two events, and at the end.
-use Rattle.std.proofs.Common.{◌≡◌, ℕ, ◌+◌, Bool, true, false, List, [], ◌∷◌, length, Option, Some, None, IfSome, if◌then◌else◌, refl, sym, ap, subst, ◌∙◌, inl, inr, arith}
+use Rattle.std.proofs.Common.{◌≡◌, ◌⊎◌, ℕ, ◌+◌, ◌<◌, ◌≤◌, Bool, true, false, List, [], ◌∷◌, length, Option, Some, None, IfSome, if◌then◌else◌, refl, sym, ap, subst, ◌∙◌, inl, inr, arith}
 use Rattle.std.specs.Option.{option_map}
 use Rattle.resty_base.specs.Counting.{RoseWhere}
 use Rattle.resty_base.specs.declared.names.Id.{Id}
@@ -18,7 +18,7 @@ use Rattle.engine.specs.declared.engine.Engine.{Engine}
 use Rattle.engine.specs.Stepping.{is_stop}
 use Rattle.engine.specs.Engine.{Rests}
 use Rattle.engine_base.specs.Right.{IsRight, Tells}
-use Rattle.engine.specs.Endings.{events_of, IsStopped, HasNoStop, IsSpent, HasFailedLog, IsFaulted}
+use Rattle.engine.specs.Endings.{events_of, to_event, has_failed_log, HasAtMost, IsStopped, HasNoStop, IsSpent, HasFailedLog, HasNoFailedLog, WorldFailed, LogFailed}
 use Rattle.engine_base.proofs.Lists.{tells-same, told-nothing}
 use Rattle.engine_base.proofs.Events.{rests-right}
 
@@ -70,44 +70,113 @@ event-or (event.BadLine n) f l m = absurd (l n refl)
 event-or event.Memory f l m = absurd (m refl)
 event-or e f l m = (refl, refl)
 
+-- what follows where something is reported
+wider-some : {X : Type 0} (o : Option X) (P Q : X → Type 0) → ((x : X) → P x → Q x) → IfSome o P → IfSome o Q
+wider-some None P Q wider p = tt
+wider-some (Some x) P Q wider p = wider x p
+
+both-some : {X : Type 0} (o : Option X) (P Q R : X → Type 0) → ((x : X) → P x → Q x → R x) → IfSome o P → IfSome o Q → IfSome o R
+both-some None P Q R wider p q = tt
+both-some (Some x) P Q R wider p q = wider x p q
+
 some-list : {A : Type 0} (x y : A) → Some x ≡ Some y → x ≡ y
 some-list x y e = cc
 
 none-some : {A : Type 0} (x : A) → Some x ≡ None → ⊥
 none-some x e = cc
 
--- the events that are told once more was given, and the work of it was done
-pub events-more : (old now : List Entry) (given later : Option (List Entry)) (e : Event) → given ≡ told (entry.Given e ∷ []) (Some old) → later ≡ Some now → option_map events_of later ≡ option_map events_of given → events_of now ≡ e ∷ events_of old
-events-more old now given later e gave is same = some-list (events_of now) (e ∷ events_of old) (sym (ap (option_map events_of) is) ∙ same ∙ ap (option_map events_of) gave)
+-- the events up to the newest are all of them
+events-to : (h : List Entry) → events_of (to_event h) ≡ events_of h
+events-to [] = refl
+events-to (entry.Given e ∷ h) = refl
+events-to (entry.Put i bytes ∷ h) = events-to h
+events-to (entry.Later i ∷ h) = events-to h
+events-to (entry.Lost i ∷ h) = events-to h
+events-to (entry.Close i ∷ h) = events-to h
+events-to (entry.Dial who host port n ∷ h) = events-to h
+events-to (entry.Log who line written ∷ h) = events-to h
+events-to (entry.Dict who zone call answer ∷ h) = events-to h
+events-to (entry.Take who key got ∷ h) = events-to h
+events-to (entry.Keep who k key idle size closed ∷ h) = events-to h
+events-to (entry.Timer who due answer ∷ h) = events-to h
+events-to (entry.Start n ∷ h) = events-to h
+events-to (entry.Turned c ∷ h) = events-to h
+events-to (entry.Dropped who ∷ h) = events-to h
 
-pub stopped : (old given later : Option (List Entry)) → given ≡ told (entry.Given event.Stop ∷ []) old → option_map events_of later ≡ option_map events_of given → IfSome later IsStopped
-stopped old given None gave same = tt
-stopped None given (Some now) gave same = absurd (none-some (events_of now) (same ∙ ap (option_map events_of) gave))
-stopped (Some before) given (Some now) gave same = (events_of before, events-more before now given (Some now) event.Stop gave refl same)
+-- an event was given, and the work of it was done
+module _ (e : Event) (old given later : Option (List Entry)) (gave : given ≡ told (entry.Given e ∷ []) old) (kept : option_map to_event later ≡ option_map to_event given) where
+  -- what holds after it, where a history is reported
+  after : (P Q : List Entry → Type 0) → ((was now : List Entry) → to_event now ≡ entry.Given e ∷ was → P was → Q now) → IfSome old P → IfSome later Q
+  after P Q each = by old later (kept ∙ ap (option_map to_event) gave)
+    where
+      by : (o l : Option (List Entry)) → option_map to_event l ≡ option_map to_event (told (entry.Given e ∷ []) o) → IfSome o P → IfSome l Q
+      by o None same was = tt
+      by None (Some now) same was = absurd (none-some (to_event now) same)
+      by (Some before) (Some now) same was = each before now (some-list (to_event now) (entry.Given e ∷ before) same) was
 
-spent-by : (n : ℕ) (now : List Entry) (e : Event) (es : List Event) → is_stop e ≡ false → events_of now ≡ e ∷ es → length es ≡ n → HasNoStop es → IsSpent (n + 1) now
-spent-by n now e es other all count none = record {
-  count = ap length all ∙ omega (arith, count);
-  no_stop = subst HasNoStop (sym all) (no-stop-more e es other none);
-}
+  more : (was now : List Entry) → to_event now ≡ entry.Given e ∷ was → events_of now ≡ e ∷ events_of was
+  more was now same = sym (events-to now) ∙ ap events_of same
 
-pub spent : (n : ℕ) (old given later : Option (List Entry)) (e : Event) → is_stop e ≡ false → given ≡ told (entry.Given e ∷ []) old → option_map events_of later ≡ option_map events_of given → IfSome old (IsSpent n) → IfSome later (IsSpent (n + 1))
-spent n old given None e other gave same was = tt
-spent n None given (Some now) e other gave same was = absurd (none-some (events_of now) (same ∙ ap (option_map events_of) gave))
-spent n (Some before) given (Some now) e other gave same was = spent-by n now e (events_of before) other (events-more before now given (Some now) e gave refl same) was.count was.no_stop
+  pub stopped : e ≡ event.Stop → (n : ℕ) → IfSome old (IsSpent n) → IfSome later IsStopped
+  stopped stop n = after (IsSpent n) IsStopped (λ was now same spent. (events_of was, more was now same ∙ ap (λ (x : Event). x ∷ events_of was) stop))
 
+  pub spent : is_stop e ≡ false → (n : ℕ) → IfSome old (IsSpent n) → IfSome later (IsSpent (n + 1))
+  spent other n = after (IsSpent n) (IsSpent (n + 1)) (λ was now same spent.
+      let count = spent.count in
+      record {
+        count = ap length (more was now same) ∙ omega (arith, count);
+        no_stop = subst HasNoStop (sym (more was now same)) (no-stop-more e (events_of was) other spent.no_stop);
+      })
+
+  pub few : (n events : ℕ) → n < events → IfSome old (IsSpent n) → IfSome later (HasAtMost events)
+  few n events less = after (IsSpent n) (HasAtMost events) (λ was now same spent.
+      let count = spent.count in
+      let longer : length (events_of now) ≡ length (events_of was) + 1 = ap length (more was now same) ∙ omega arith in
+      let all : length (events_of now) ≤ events = omega (arith, count, longer, less) in
+      all)
+
+  -- each log line was written before it
+  before : IfSome old HasNoFailedLog → IfSome later (λ h. HasNoFailedLog (to_event h))
+  before = after HasNoFailedLog (λ h. HasNoFailedLog (to_event h)) (λ was now same none. ap has_failed_log same ∙ none)
+
+  pub written : option_map has_failed_log later ≡ option_map has_failed_log given → IfSome old HasNoFailedLog → IfSome later HasNoFailedLog
+  written same = by old later (same ∙ ap (option_map has_failed_log) gave)
+    where
+      by : (o l : Option (List Entry)) → option_map has_failed_log l ≡ option_map has_failed_log (told (entry.Given e ∷ []) o) → IfSome o HasNoFailedLog → IfSome l HasNoFailedLog
+      by o None kept none = tt
+      by None (Some now) kept none = absurd (none-some (has_failed_log now) kept)
+      by (Some was) (Some now) kept none = some-list (has_failed_log now) (has_failed_log was) kept ∙ none
+
+  pub unlogged : IfSome old HasNoFailedLog → IfSome later HasFailedLog → IfSome later (λ h. WorldFailed h ⊎ LogFailed h)
+  unlogged none failed = both-some later HasFailedLog _ _ (λ h f b. inr (record { failed = f; before = b })) failed (before none)
+
+-- nothing was given
+module _ (old new : Book) (e : Event) (gave : Gave old new e) (none : is_event e ≡ false) where
+  still : (P Q : List Entry → Type 0) → ((h : List Entry) → P h → Q h) → IfSome old.history P → IfSome new.history Q
+  still P Q wider was =
+      rw (gave.history ∙ ap (λ v. told (if v then entry.Given e ∷ [] else []) old.history) none ∙ told-nothing old.history) (wider-some old.history P Q wider was)
+
+  pub still-written : IfSome old.history HasNoFailedLog → IfSome new.history HasNoFailedLog
+  still-written = still HasNoFailedLog HasNoFailedLog (λ h l. l)
+
+  pub still-few : (n events : ℕ) → n ≤ events → IfSome old.history (IsSpent n) → IfSome new.history (HasAtMost events)
+  still-few n events less = still (IsSpent n) (HasAtMost events) (λ h spent. let count = spent.count in let all : length (events_of h) ≤ events = omega (arith, count, less) in all)
+
+  pub world-failed : (n : ℕ) → IfSome old.history (IsSpent n) → IfSome old.history HasNoFailedLog → IfSome new.history (λ h. WorldFailed h ⊎ LogFailed h)
+  world-failed n spent logs =
+      both-some new.history (λ h. HasNoStop (events_of h)) HasNoFailedLog _ (λ h s l. inl (record { no_stop = s; logs = l })) (still (IsSpent n) _ (λ h s. s.no_stop) spent) (still-written logs)
+
+-- nothing is told of a fresh world
 pub fresh-spent : (history : Option (List Entry)) → Tells history [] → IfSome history (IsSpent 0)
 fresh-spent None told_nothing = tt
 fresh-spent (Some h) is = rw is (record { count = refl; no_stop = tt })
 
--- a fault of the world, and a log line that wasn't written
-pub faulted : (n : ℕ) (old new : Option (List Entry)) → new ≡ old → IfSome old (IsSpent n) → IfSome new IsFaulted
-faulted n None new is was = rw is tt
-faulted n (Some h) new is was = rw is (inl was.no_stop)
+pub fresh-written : (history : Option (List Entry)) → Tells history [] → IfSome history HasNoFailedLog
+fresh-written None told_nothing = tt
+fresh-written (Some h) is = rw is refl
 
-pub unwritten : (history : Option (List Entry)) → IfSome history HasFailedLog → IfSome history IsFaulted
-unwritten None f = tt
-unwritten (Some h) f = inr f
+pub spent-few : (n events : ℕ) → n ≤ events → (history : Option (List Entry)) → IfSome history (IsSpent n) → IfSome history (HasAtMost events)
+spent-few n events less history = wider-some history (IsSpent n) (HasAtMost events) (λ h spent. let count = spent.count in let all : length (events_of h) ≤ events = omega (arith, count, less) in all)
 
 pub fault-free : (e : Event) (before now : ℕ) → is_fault e ≡ false → RoseWhere (is_fault e) before now → now ≡ before
 fault-free e before now none r = let s : RoseWhere false before now = rw none at r in s

@@ -1,8 +1,8 @@
 //! Serving a world: its events, one after another, until Stop or a fault.
 
-ghost use Rattle.std.specs.Prelude.{◌≡◌};
+ghost use Rattle.std.specs.Prelude.{◌≡◌, IfSome};
 ghost use Rattle.engine_base.specs.Right.{IsFresh, IsRight};
-ghost use Rattle.engine.specs.Endings.{EndsBy};
+ghost use Rattle.engine.specs.Endings.{EndsBy, HasAtMost};
 
 use crate::{Engine, Stepped};
 use resty_world::{Event, World};
@@ -33,6 +33,7 @@ pub fn serve<S: StrandContract, W: World>(
 ) -> Ended
     requires { IsFresh (W.book world.old) }
     ensures right { IsRight (S.meaning site).behavior (W.book world.new) }
+    ensures few { IfSome (W.book world.new).history (HasAtMost events) }
     ensures ended { EndsBy events (W.book world.old) (W.book world.new) result }
     ensures port { (W.book world.new).port ≡ (W.book world.old).port }
     ensures same { W.same world.old world.new }

@@ -1,4 +1,6 @@
 mod Lists
+mod After
+mod Leaves
 mod Nodes
 mod Wholes
 mod WholeStatements

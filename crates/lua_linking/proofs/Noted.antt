@@ -1,68 +1,96 @@
 -- What is noted of a node in steps, part by part.
-use Rattle.std.proofs.Common.{◌≡◌, ℕ, List, ◌++◌, Result, OnOk, Option, Vec, Global, ap, sym, ◌∙◌, append_assoc}
+use Rattle.std.proofs.Common.{◌≡◌, ◌⊎◌, ℕ, List, ◌++◌, Result, IsOk, OnOk, Option, Vec, Global, ap, refl, sym, ◌∙◌, append_assoc}
 use Rattle.std.specs.Prelude.{flat_map}
 use Rattle.std.specs.declared.rc.Rc.{Rc}
 use Rattle.std.proofs.lemmas.Result.{on_ok_weaker}
 use Rattle.lua_ast.specs.declared.expressions.Expr.{Expr}
 use Rattle.lua_ast.specs.declared.expressions.ExprKind.{ExprKind}
 use Rattle.lua_ast.specs.declared.expressions.ExprKind as kind
+use Rattle.lua_ast.specs.declared.expressions.BinOp.{BinOp}
+use Rattle.lua_ast.specs.declared.expressions.UnOp.{UnOp}
 use Rattle.lua_ast.specs.declared.statements.Stmt.{Stmt}
 use Rattle.lua_ast.specs.declared.statements.StmtKind.{StmtKind}
 use Rattle.lua_ast.specs.declared.statements.StmtKind as stmt
 use Rattle.lua_ast.specs.declared.statements.Arm.{Arm, out-Arm}
 use Rattle.lua_linking.specs.declared.mentions.Mention.{Mention}
 use Rattle.lua_linking.specs.Mentions.{kind_mentions, mentions_in, module_in, stmt_mentions, mentions_in_arm, mentions_in_stmt, mentions_in_range}
-use Rattle.lua_linking.proofs.Rows.{call_is, method_is, while_is, repeat_is, if_is, numeric_is, generic_is, arm_is}
+use Rattle.lua_linking.proofs.After.{both}
+use Rattle.lua_linking.proofs.Rows.{pair_is, operand_is, list_is, call_is, method_is, while_is, repeat_is, if_is, numeric_is, generic_is, arm_is}
 
--- the mentions that were there, and those after each part
-module _ {E : Type 0} (r : Result (Unit {0}) E) (a b c : List Mention) where
+-- the mentions that were there, and those after each part; the second part is noted only where the first is
+module _ {E : Type 0} (q r : Result (Unit {0}) E) (a b c : List Mention) (done : OnOk r (IsOk q)) where
   -- two parts
-  two : (xs ys all : List Mention) → all ≡ xs ++ ys → b ≡ a ++ xs → OnOk r (c ≡ b ++ ys) → OnOk r (c ≡ a ++ all)
-  two xs ys all e p q =
-      let step : c ≡ b ++ ys → c ≡ a ++ all = λ h. h ∙ (ap (λ l. l ++ ys) p ∙ (append_assoc a xs ys ∙ ap (λ l. a ++ l) (sym e))) in
-      on_ok_weaker r step q
+  pub two : (xs ys all : List Mention) → all ≡ xs ++ ys → OnOk q (b ≡ a ++ xs) → OnOk r (c ≡ b ++ ys) → OnOk r (c ≡ a ++ all)
+  two xs ys all e p s =
+      on_ok_weaker r (λ h. h.1 ∙ (ap (λ l. l ++ ys) h.0 ∙ (append_assoc a xs ys ∙ ap (λ l. a ++ l) (sym e)))) (both _ _ q r done p s)
 
-  pub method_noted : (k : ExprKind) (object : Rc Expr Global) (name : List ℕ) (values : Rc (Vec Expr Global) Global) (x : Expr) (es : List Expr)
-      → k ≡ kind.Method object name values → x ≡ object.value → es ≡ values.value.items → b ≡ a ++ mentions_in x → OnOk r (c ≡ b ++ flat_map mentions_in es)
+  pub pair_noted : (k : ExprKind) (v w : Rc Expr Global)
+      → (k ≡ kind.Index v w) ⊎ (((op : BinOp) × (k ≡ kind.Binary op v w)) ⊎ ((k ≡ kind.And v w) ⊎ (k ≡ kind.Or v w)))
+      → OnOk q (b ≡ a ++ mentions_in v.value) → OnOk r (c ≡ b ++ mentions_in w.value) → OnOk r (c ≡ a ++ kind_mentions k)
+  pair_noted k v w is p s = two (mentions_in v.value) (mentions_in w.value) (kind_mentions k) (pair_is k v w is) p s
+
+  pub method_noted : (k : ExprKind) (object : Rc Expr Global) (name : List ℕ) (values : Rc (Vec Expr Global) Global)
+      → k ≡ kind.Method object name values → OnOk q (b ≡ a ++ mentions_in object.value) → OnOk r (c ≡ b ++ flat_map mentions_in values.value.items)
       → OnOk r (c ≡ a ++ kind_mentions k)
-  method_noted k object name values x es is d e p q = two (mentions_in x) (flat_map mentions_in es) (kind_mentions k) (rw (is, d, e) (method_is object name values)) p q
+  method_noted k object name values is p s =
+      two (mentions_in object.value) (flat_map mentions_in values.value.items) (kind_mentions k) (rw is (method_is object name values)) p s
 
-  pub while_noted : (k : StmtKind) (test : Rc Expr Global) (body : Rc (Vec Stmt Global) Global) (x : Expr) (ss : List Stmt)
-      → k ≡ stmt.While test body → x ≡ test.value → ss ≡ body.value.items → b ≡ a ++ mentions_in x → OnOk r (c ≡ b ++ flat_map mentions_in_stmt ss)
+  pub repeat_noted : (k : StmtKind) (body : Rc (Vec Stmt Global) Global) (test : Rc Expr Global)
+      → k ≡ stmt.Repeat body test → OnOk q (b ≡ a ++ flat_map mentions_in_stmt body.value.items) → OnOk r (c ≡ b ++ mentions_in test.value)
       → OnOk r (c ≡ a ++ stmt_mentions k)
-  while_noted k test body x ss is d e p q = two (mentions_in x) (flat_map mentions_in_stmt ss) (stmt_mentions k) (rw (is, d, e) (while_is test body)) p q
+  repeat_noted k body test is p s = two (flat_map mentions_in_stmt body.value.items) (mentions_in test.value) (stmt_mentions k) (rw is (repeat_is body test)) p s
 
-  pub repeat_noted : (k : StmtKind) (body : Rc (Vec Stmt Global) Global) (test : Rc Expr Global) (ss : List Stmt) (x : Expr)
-      → k ≡ stmt.Repeat body test → ss ≡ body.value.items → x ≡ test.value → b ≡ a ++ flat_map mentions_in_stmt ss → OnOk r (c ≡ b ++ mentions_in x)
+  pub if_noted : (k : StmtKind) (arms : Rc (Vec Arm Global) Global) (body : Rc (Vec Stmt Global) Global)
+      → k ≡ stmt.If arms body → OnOk q (b ≡ a ++ flat_map mentions_in_arm arms.value.items) → OnOk r (c ≡ b ++ flat_map mentions_in_stmt body.value.items)
       → OnOk r (c ≡ a ++ stmt_mentions k)
-  repeat_noted k body test ss x is d e p q = two (flat_map mentions_in_stmt ss) (mentions_in x) (stmt_mentions k) (rw (is, d, e) (repeat_is body test)) p q
+  if_noted k arms body is p s =
+      two (flat_map mentions_in_arm arms.value.items) (flat_map mentions_in_stmt body.value.items) (stmt_mentions k) (rw is (if_is arms body)) p s
 
-  pub if_noted : (k : StmtKind) (arms : Rc (Vec Arm Global) Global) (body : Rc (Vec Stmt Global) Global) (those : List Arm) (ss : List Stmt)
-      → k ≡ stmt.If arms body → those ≡ arms.value.items → ss ≡ body.value.items → b ≡ a ++ flat_map mentions_in_arm those → OnOk r (c ≡ b ++ flat_map mentions_in_stmt ss)
-      → OnOk r (c ≡ a ++ stmt_mentions k)
-  if_noted k arms body those ss is d e p q = two (flat_map mentions_in_arm those) (flat_map mentions_in_stmt ss) (stmt_mentions k) (rw (is, d, e) (if_is arms body)) p q
-
-  pub numeric_noted : (k : StmtKind) (slot : ℕ) (from to : Rc Expr Global) (step : Option (Rc Expr Global)) (body : Rc (Vec Stmt Global) Global) (x y : Expr) (ss : List Stmt)
-      → k ≡ stmt.NumericFor slot from to step body → x ≡ from.value → y ≡ to.value → ss ≡ body.value.items → b ≡ a ++ mentions_in_range x y step
-      → OnOk r (c ≡ b ++ flat_map mentions_in_stmt ss) → OnOk r (c ≡ a ++ stmt_mentions k)
-  numeric_noted k slot from to step body x y ss is d e f p q =
-      two (mentions_in_range x y step) (flat_map mentions_in_stmt ss) (stmt_mentions k) (rw (is, d, e, f) (numeric_is slot from to step body)) p q
-
-  pub generic_noted : (k : StmtKind) (slots : Rc (Vec ℕ Global) Global) (values : Rc (Vec Expr Global) Global) (body : Rc (Vec Stmt Global) Global) (es : List Expr) (ss : List Stmt)
-      → k ≡ stmt.GenericFor slots values body → es ≡ values.value.items → ss ≡ body.value.items → b ≡ a ++ flat_map mentions_in es → OnOk r (c ≡ b ++ flat_map mentions_in_stmt ss)
-      → OnOk r (c ≡ a ++ stmt_mentions k)
-  generic_noted k slots values body es ss is d e p q = two (flat_map mentions_in es) (flat_map mentions_in_stmt ss) (stmt_mentions k) (rw (is, d, e) (generic_is slots values body)) p q
-
-  pub arm_noted : (arm : Arm) (ss : List Stmt) → ss ≡ (out-Arm arm).body.value.items → b ≡ a ++ mentions_in (out-Arm arm).test → OnOk r (c ≡ b ++ flat_map mentions_in_stmt ss)
+  pub arm_noted : (arm : Arm) → OnOk q (b ≡ a ++ mentions_in (out-Arm arm).test) → OnOk r (c ≡ b ++ flat_map mentions_in_stmt (out-Arm arm).body.value.items)
       → OnOk r (c ≡ a ++ mentions_in_arm arm)
-  arm_noted arm ss e p q = two (mentions_in (out-Arm arm).test) (flat_map mentions_in_stmt ss) (mentions_in_arm arm) (rw e (arm_is arm)) p q
+  arm_noted arm p s = two (mentions_in (out-Arm arm).test) (flat_map mentions_in_stmt (out-Arm arm).body.value.items) (mentions_in_arm arm) (arm_is arm) p s
+
+-- one part
+one : {E : Type 0} (r : Result (Unit {0}) E) (a b xs all : List Mention) → all ≡ xs → OnOk r (b ≡ a ++ xs) → OnOk r (b ≡ a ++ all)
+one r a b xs all e p = on_ok_weaker r (λ h. h ∙ ap (λ l. a ++ l) (sym e)) p
+
+pub assign_noted : {E : Type 0} (r : Result (Unit {0}) E) (a b : List Mention) (k : StmtKind) (targets values : Rc (Vec Expr Global) Global) → k ≡ stmt.Assign targets values
+    → OnOk r (b ≡ a ++ (flat_map mentions_in targets.value.items ++ flat_map mentions_in values.value.items)) → OnOk r (b ≡ a ++ stmt_mentions k)
+assign_noted r a b k targets values is p =
+    one r a b (flat_map mentions_in targets.value.items ++ flat_map mentions_in values.value.items) (stmt_mentions k) (rw is refl) p
+
+pub while_noted : {E : Type 0} (r : Result (Unit {0}) E) (a b : List Mention) (k : StmtKind) (test : Rc Expr Global) (body : Rc (Vec Stmt Global) Global) → k ≡ stmt.While test body
+    → OnOk r (b ≡ a ++ (mentions_in test.value ++ flat_map mentions_in_stmt body.value.items)) → OnOk r (b ≡ a ++ stmt_mentions k)
+while_noted r a b k test body is p = one r a b (mentions_in test.value ++ flat_map mentions_in_stmt body.value.items) (stmt_mentions k) (rw is (while_is test body)) p
+
+pub numeric_noted : {E : Type 0} (r : Result (Unit {0}) E) (a b : List Mention) (k : StmtKind) (slot : ℕ) (from to : Rc Expr Global) (step : Option (Rc Expr Global))
+    (body : Rc (Vec Stmt Global) Global) → k ≡ stmt.NumericFor slot from to step body
+    → OnOk r (b ≡ a ++ (mentions_in_range from.value to.value step ++ flat_map mentions_in_stmt body.value.items)) → OnOk r (b ≡ a ++ stmt_mentions k)
+numeric_noted r a b k slot from to step body is p =
+    one r a b (mentions_in_range from.value to.value step ++ flat_map mentions_in_stmt body.value.items) (stmt_mentions k) (rw is (numeric_is slot from to step body)) p
+
+pub generic_noted : {E : Type 0} (r : Result (Unit {0}) E) (a b : List Mention) (k : StmtKind) (slots : Rc (Vec ℕ Global) Global) (values : Rc (Vec Expr Global) Global)
+    (body : Rc (Vec Stmt Global) Global) → k ≡ stmt.GenericFor slots values body
+    → OnOk r (b ≡ a ++ (flat_map mentions_in values.value.items ++ flat_map mentions_in_stmt body.value.items)) → OnOk r (b ≡ a ++ stmt_mentions k)
+generic_noted r a b k slots values body is p =
+    one r a b (flat_map mentions_in values.value.items ++ flat_map mentions_in_stmt body.value.items) (stmt_mentions k) (rw is (generic_is slots values body)) p
+
+pub operand_noted : {E : Type 0} (r : Result (Unit {0}) E) (a b : List Mention) (k : ExprKind) (v : Rc Expr Global) → ((op : UnOp) × (k ≡ kind.Unary op v)) ⊎ (k ≡ kind.Paren v)
+    → OnOk r (b ≡ a ++ mentions_in v.value) → OnOk r (b ≡ a ++ kind_mentions k)
+operand_noted r a b k v is p = one r a b (mentions_in v.value) (kind_mentions k) (operand_is k v is) p
+
+pub list_noted : {E : Type 0} (r : Result (Unit {0}) E) (a b : List Mention) (k : StmtKind) (values : Rc (Vec Expr Global) Global)
+    → ((slots : Rc (Vec ℕ Global) Global) × (k ≡ stmt.Local slots values)) ⊎ (k ≡ stmt.Return values)
+    → OnOk r (b ≡ a ++ flat_map mentions_in values.value.items) → OnOk r (b ≡ a ++ stmt_mentions k)
+list_noted r a b k values is p = one r a b (flat_map mentions_in values.value.items) (stmt_mentions k) (list_is k values is) p
 
 -- three parts of a call
-pub call_noted : {E : Type 0} (r : Result (Unit {0}) E) (a b c d : List Mention) (k : ExprKind) (callee : Rc Expr Global) (values : Rc (Vec Expr Global) Global) (x y : Expr) (es ds : List Expr)
-    → k ≡ kind.Call callee values → x ≡ callee.value → y ≡ callee.value → es ≡ values.value.items → ds ≡ values.value.items
-    → b ≡ a ++ module_in x es → c ≡ b ++ mentions_in y → OnOk r (d ≡ c ++ flat_map mentions_in ds) → OnOk r (d ≡ a ++ kind_mentions k)
-call_noted r a b c d k callee values x y es ds is e f g h p q s =
-    let m : List Mention = module_in x es in
-    let all : kind_mentions k ≡ m ++ (mentions_in y ++ flat_map mentions_in ds) = rw (is, e, f, g, h) (call_is callee values) in
-    let both : c ≡ a ++ (m ++ mentions_in y) = q ∙ (ap (λ l. l ++ mentions_in y) p ∙ append_assoc a m (mentions_in y)) in
-    two r a c d (m ++ mentions_in y) (flat_map mentions_in ds) (kind_mentions k) (all ∙ sym (append_assoc m (mentions_in y) (flat_map mentions_in ds))) both s
+pub call_noted : {E : Type 0} (o q r : Result (Unit {0}) E) (a b c d : List Mention) (k : ExprKind) (callee : Rc Expr Global) (values : Rc (Vec Expr Global) Global)
+    → k ≡ kind.Call callee values → OnOk q (IsOk o) → OnOk r (IsOk q) → OnOk o (b ≡ a ++ module_in callee.value values.value.items)
+    → OnOk q (c ≡ b ++ mentions_in callee.value) → OnOk r (d ≡ c ++ flat_map mentions_in values.value.items) → OnOk r (d ≡ a ++ kind_mentions k)
+call_noted o q r a b c d k callee values is first second p s t =
+    let m : List Mention = module_in callee.value values.value.items in
+    let n : List Mention = mentions_in callee.value in
+    let l : List Mention = flat_map mentions_in values.value.items in
+    let all : kind_mentions k ≡ m ++ (n ++ l) = rw is (call_is callee values) in
+    two q r a c d second (m ++ n) l (kind_mentions k) (all ∙ sym (append_assoc m n l)) (two o q a b c first m n (m ++ n) refl p s) t

@@ -1,11 +1,13 @@
 -- What the rows of a tree mention, as lists.
-use Rattle.std.proofs.Common.{◌≡◌, ℕ, List, ◌++◌, Vec, Global, rules, refl, ap, ◌∙◌, subst}
+use Rattle.std.proofs.Common.{◌≡◌, ◌⊎◌, inl, inr, ℕ, List, ◌++◌, Vec, Global, rules, refl, ap, ◌∙◌, subst}
 use denote.Hole.Carrier.{roll}
 use Rattle.std.specs.Prelude.{flat_map, Option}
 use Rattle.std.specs.declared.rc.Rc.{Rc}
 use Rattle.lua_ast.specs.declared.expressions.Expr.{Expr}
 use Rattle.lua_ast.specs.declared.expressions.ExprKind.{ExprKind}
 use Rattle.lua_ast.specs.declared.expressions.ExprKind as kind
+use Rattle.lua_ast.specs.declared.expressions.BinOp.{BinOp}
+use Rattle.lua_ast.specs.declared.expressions.UnOp.{UnOp}
 use Rattle.lua_ast.specs.declared.expressions.TableItem.{TableItem}
 use Rattle.lua_ast.specs.declared.statements.Stmt.{Stmt}
 use Rattle.lua_ast.specs.declared.statements.StmtKind.{StmtKind}
@@ -60,6 +62,24 @@ pub arms : (values : Vec Arm Global) → arms_mentions (stmt.TheBlock.hidden-the
 arms values =
     let e : stmt.items-the_row-Arm _ (stmt.TheBlock.hidden-the_row-Arm-1 values) ≡ values.items = search (rules, stmt.the_lemmas) in
     arms_is (stmt.TheBlock.hidden-the_row-Arm-1 values) ∙ ap (flat_map mentions_in_arm) e
+
+-- what a node with two operands, or with one, mentions
+pub pair_is : (k : ExprKind) (v w : Rc Expr Global)
+    → (k ≡ kind.Index v w) ⊎ (((op : BinOp) × (k ≡ kind.Binary op v w)) ⊎ ((k ≡ kind.And v w) ⊎ (k ≡ kind.Or v w)))
+    → kind_mentions k ≡ mentions_in v.value ++ mentions_in w.value
+pair_is k v w (inl e) = rw e refl
+pair_is k v w (inr (inl (op, e))) = rw e refl
+pair_is k v w (inr (inr (inl e))) = rw e refl
+pair_is k v w (inr (inr (inr e))) = rw e refl
+
+pub operand_is : (k : ExprKind) (v : Rc Expr Global) → ((op : UnOp) × (k ≡ kind.Unary op v)) ⊎ (k ≡ kind.Paren v) → kind_mentions k ≡ mentions_in v.value
+operand_is k v (inl (op, e)) = rw e refl
+operand_is k v (inr e) = rw e refl
+
+pub list_is : (k : StmtKind) (values : Rc (Vec Expr Global) Global) → ((slots : Rc (Vec ℕ Global) Global) × (k ≡ stmt.Local slots values)) ⊎ (k ≡ stmt.Return values)
+    → stmt_mentions k ≡ flat_map mentions_in values.value.items
+list_is k values (inl (slots, e)) = rw e refl
+list_is k values (inr e) = rw e refl
 
 -- what a node with lists mentions
 pub call_is : (callee : Rc Expr Global) (values : Rc (Vec Expr Global) Global) →

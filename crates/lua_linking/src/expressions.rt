@@ -1,8 +1,8 @@
 //! Numbers of functions in expressions, raised in place.
 
-ghost use Rattle.std.specs.Prelude.{◌≡◌, ◌+◌, OnOk};
+ghost use Rattle.std.specs.Prelude.{◌≡◌, ◌+◌, IsOk, OnOk};
 ghost use Rattle.std.specs.List.{AllZip};
-ghost use Rattle.lua_linking.specs.Raising.{RaisedExpr, RaisedItem};
+ghost use Rattle.lua_linking.specs.Raising.{RaisedExpr, RaisedItem, RaisedKind};
 
 use lua_ast::{Expr, ExprKind, TableItem};
 use std::alloc::AllocError;
@@ -26,38 +26,28 @@ pub(crate) fn raise_number(number: &mut u32, by: u32) -> Result<(), AllocError>
 pub(crate) fn raise_expr(expr: &mut Expr, by: u32) -> Result<(), AllocError>
     ensures { OnOk result (RaisedExpr by expr.old expr.new) }
 {
-    match &mut expr.kind {
+    raise_kind(&mut expr.kind, by)
+}
+
+/// The same of what an expression is.
+#[cycle(raise)]
+fn raise_kind(kind: &mut ExprKind, by: u32) -> Result<(), AllocError>
+    ensures { OnOk result (RaisedKind by kind.old kind.new) }
+{
+    match kind {
         ExprKind::Function(number) => raise_number(number, by),
-        ExprKind::Index(a, b) => {
-            raise_shared(a, by)?;
-            raise_shared(b, by)
-        }
-        ExprKind::Binary(_, a, b) => {
-            raise_shared(a, by)?;
-            raise_shared(b, by)
-        }
-        ExprKind::And(a, b) => {
-            raise_shared(a, by)?;
-            raise_shared(b, by)
-        }
-        ExprKind::Or(a, b) => {
-            raise_shared(a, by)?;
-            raise_shared(b, by)
-        }
-        ExprKind::Call(callee, values) => {
-            raise_shared(callee, by)?;
-            raise_list(values, by)
-        }
+        ExprKind::Index(a, b) => raise_after(raise_shared(a, by), b, by),
+        ExprKind::Binary(_, a, b) => raise_after(raise_shared(a, by), b, by),
+        ExprKind::And(a, b) => raise_after(raise_shared(a, by), b, by),
+        ExprKind::Or(a, b) => raise_after(raise_shared(a, by), b, by),
+        ExprKind::Call(callee, values) => raise_list_after(raise_shared(callee, by), values, by),
         ExprKind::Method(object, _, values) => {
-            raise_shared(object, by)?;
-            raise_list(values, by)
+            raise_list_after(raise_shared(object, by), values, by)
         }
         ExprKind::Unary(_, operand) => raise_shared(operand, by),
         ExprKind::Paren(inner) => raise_shared(inner, by),
         ExprKind::Table(items) => raise_items(items, by),
-        ExprKind::Nil | ExprKind::True | ExprKind::False | ExprKind::Vararg => Ok(()),
-        ExprKind::Number(_) | ExprKind::Text(_) | ExprKind::Global(_) => Ok(()),
-        ExprKind::Slot(_) | ExprKind::Captured(_) => Ok(()),
+        _ => Ok(()),
     }
 }
 
@@ -69,6 +59,22 @@ pub(crate) fn raise_shared(expr: &mut Rc<Expr>, by: u32) -> Result<(), AllocErro
     match Rc::get_mut(expr) {
         Some(expr) => raise_expr(expr, by),
         None => Err(AllocError),
+    }
+}
+
+/// The same, where what stands before it is raised.
+#[cycle(raise)]
+pub(crate) fn raise_after(
+    before: Result<(), AllocError>,
+    expr: &mut Rc<Expr>,
+    by: u32,
+) -> Result<(), AllocError>
+    ensures before { OnOk result (IsOk before) }
+    ensures raised { OnOk result (RaisedExpr by expr.old.value expr.new.value) }
+{
+    match before {
+        Ok(()) => raise_shared(expr, by),
+        Err(e) => Err(e),
     }
 }
 
@@ -84,6 +90,22 @@ pub(crate) fn raise_list(exprs: &mut Rc<Vec<Expr>>, by: u32) -> Result<(), Alloc
         raise_expr(&mut exprs[i], by)?;
     }
     Ok(())
+}
+
+/// The same, where what stands before them is raised.
+#[cycle(raise)]
+pub(crate) fn raise_list_after(
+    before: Result<(), AllocError>,
+    exprs: &mut Rc<Vec<Expr>>,
+    by: u32,
+) -> Result<(), AllocError>
+    ensures before { OnOk result (IsOk before) }
+    ensures raised { OnOk result (AllZip (RaisedExpr by) exprs.old.value.items exprs.new.value.items) }
+{
+    match before {
+        Ok(()) => raise_list(exprs, by),
+        Err(e) => Err(e),
+    }
 }
 
 /// The same of each of these items of a table constructor.

@@ -51,23 +51,42 @@ fn append_files(alloc: Global, files: &mut ByteLists, others: ByteLists) -> Resu
     done
 }
 
-/// Joins `other` to `program`, and gives the number that `other`'s first function has now. The trees of `other` have no other
-/// owner; where one has, or a number no longer fits, that is out of memory. Where memory runs out `program` has the files and
-/// functions that it had.
-pub fn join(alloc: Global, program: &mut Program, other: Program) -> Result<u32, AllocError>
-    ensures joined { OnOk result (IsJoined program.old other program.new) }
-    ensures first { IfOk result (λ number. number ≡ length program.old.functions.items) }
-    ensures kept { OnErr result (HasSameLists program.old program.new) }
+/// Raises the numbers in functions, which come after those of a program, and gives the number that the first of them has now.
+fn raise_behind(functions: &mut [Function], program: &Program) -> Result<u32, AllocError>
+    ensures first { IfOk result (λ number. number ≡ length program.now.functions.items) }
+    ensures raised { OnOk result (AllZip (RaisedFunction (length program.now.functions.items) (length program.now.files)) functions.old functions.new) }
 {
     let first = number_after(program.functions.len())?;
     let file = number_after(program.files.as_slice().len())?;
+    raise_functions(functions, first, file)?;
+    Ok(first)
+}
+
+/// Appends the files and functions of a program; where memory runs out the program before them has those that it had.
+fn append_program(alloc: Global, program: &mut Program, other: Program) -> Result<(), AllocError>
+    ensures files { OnOk result (program.new.files ≡ program.old.files ++ other.files) }
+    ensures functions { OnOk result (program.new.functions.items ≡ program.old.functions.items ++ other.functions.items) }
+    ensures kept { OnErr result (HasSameLists program.old program.new) }
+{
     let Program {
         files,
         mut functions,
     } = other;
-    raise_functions(&mut functions, first, file)?;
     program.functions.reserve(functions.len())?;
     append_files(alloc, &mut program.files, files)?;
     program.functions.append(&mut functions)?;
+    Ok(())
+}
+
+/// Joins `other` to `program`, and gives the number that `other`'s first function has now. The trees of `other` have no other
+/// owner; where one has, or a number no longer fits, that is out of memory. Where memory runs out `program` has the files and
+/// functions that it had.
+pub fn join(alloc: Global, program: &mut Program, mut other: Program) -> Result<u32, AllocError>
+    ensures joined { OnOk result (IsJoined program.old other program.new) }
+    ensures first { IfOk result (λ number. number ≡ length program.old.functions.items) }
+    ensures kept { OnErr result (HasSameLists program.old program.new) }
+{
+    let first = raise_behind(&mut other.functions, program)?;
+    append_program(alloc, program, other)?;
     Ok(first)
 }

@@ -9,9 +9,10 @@ ghost use Rattle.lua_linking.specs.declared.mentions.Mention.TheVariants.{Inner}
 use lua_ast::{Expr, ExprKind};
 use resty_base::Bytes;
 use std::alloc::AllocError;
+use std::rc::Rc;
 
 /// What the body of a function mentions.
-#[derive(Debug, Drop)]
+#[derive(Drop)]
 pub(crate) enum Mention {
     /// A module, by its literal name after `require`.
     Module(Bytes),
@@ -55,8 +56,19 @@ pub(crate) fn mention_function(number: u32, mentions: &mut Vec<Mention>) -> Resu
     Ok(())
 }
 
+/// Notes the module that a call of these parts names, if it names one.
+pub(crate) fn mention_call(
+    callee: &Rc<Expr>,
+    values: &Rc<Vec<Expr>>,
+    mentions: &mut Vec<Mention>,
+) -> Result<(), AllocError>
+    ensures { OnOk result (mentions.new.items ≡ mentions.old.items ++ spec.module_in callee.now.value values.now.value.items) }
+{
+    mention_module(callee, values, mentions)
+}
+
 /// Notes the module that a call names, if it names one.
-pub(crate) fn mention_module(
+fn mention_module(
     callee: &Expr,
     values: &[Expr],
     mentions: &mut Vec<Mention>,

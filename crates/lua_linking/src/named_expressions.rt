@@ -1,11 +1,12 @@
 //! What expressions mention, in the order of the text.
 
-ghost use Rattle.std.specs.Prelude.{◌≡◌, ◌++◌, OnOk, flat_map};
+ghost use Rattle.std.specs.Prelude.{◌≡◌, ◌++◌, IsOk, OnOk, flat_map};
 ghost use Rattle.lua_linking.specs.Mentions as spec;
 
-use crate::mentions::{Mention, mention_function, mention_module};
+use crate::mentions::{Mention, mention_call, mention_function};
 use lua_ast::{Expr, ExprKind, TableItem};
 use std::alloc::AllocError;
+use std::rc::Rc;
 
 /// Notes what an expression mentions.
 #[cycle(mentions)]
@@ -15,37 +16,66 @@ pub(crate) fn mentions_in(expr: &Expr, mentions: &mut Vec<Mention>) -> Result<()
 {
     match &expr.kind {
         ExprKind::Function(number) => mention_function(*number, mentions),
-        ExprKind::Index(a, b) => {
-            mentions_in(a, mentions)?;
-            mentions_in(b, mentions)
-        }
-        ExprKind::Binary(_, a, b) => {
-            mentions_in(a, mentions)?;
-            mentions_in(b, mentions)
-        }
-        ExprKind::And(a, b) => {
-            mentions_in(a, mentions)?;
-            mentions_in(b, mentions)
-        }
-        ExprKind::Or(a, b) => {
-            mentions_in(a, mentions)?;
-            mentions_in(b, mentions)
-        }
+        ExprKind::Index(a, b)
+        | ExprKind::Binary(_, a, b)
+        | ExprKind::And(a, b)
+        | ExprKind::Or(a, b) => mentions_after(mentions_in_shared(a, mentions), b, mentions),
         ExprKind::Call(callee, values) => {
-            mention_module(callee, values, mentions)?;
-            mentions_in(callee, mentions)?;
-            mentions_in_each(values, mentions)
+            let done = mention_call(callee, values, mentions);
+            let done = mentions_after(done, callee, mentions);
+            each_after(done, values, mentions)
         }
         ExprKind::Method(object, _, values) => {
-            mentions_in(object, mentions)?;
-            mentions_in_each(values, mentions)
+            each_after(mentions_in_shared(object, mentions), values, mentions)
         }
-        ExprKind::Unary(_, operand) => mentions_in(operand, mentions),
-        ExprKind::Paren(inner) => mentions_in(inner, mentions),
-        ExprKind::Table(items) => mentions_in_items(items, mentions),
-        ExprKind::Nil | ExprKind::True | ExprKind::False | ExprKind::Vararg => Ok(()),
-        ExprKind::Number(_) | ExprKind::Text(_) | ExprKind::Global(_) => Ok(()),
-        ExprKind::Slot(_) | ExprKind::Captured(_) => Ok(()),
+        ExprKind::Unary(_, operand) | ExprKind::Paren(operand) => {
+            mentions_in_shared(operand, mentions)
+        }
+        ExprKind::Table(items) => mentions_in_table(items, mentions),
+        _ => Ok(()),
+    }
+}
+
+/// Notes what an expression that is a part of another mentions.
+#[cycle(mentions)]
+pub(crate) fn mentions_in_shared(
+    expr: &Rc<Expr>,
+    mentions: &mut Vec<Mention>,
+) -> Result<(), AllocError>
+    ensures { OnOk result (mentions.new.items ≡ mentions.old.items ++ spec.mentions_in expr.now.value) }
+{
+    mentions_in(expr, mentions)
+}
+
+/// Notes what an expression mentions, where what comes before it in the text is noted.
+#[cycle(mentions)]
+pub(crate) fn mentions_after(
+    before: Result<(), AllocError>,
+    expr: &Rc<Expr>,
+    mentions: &mut Vec<Mention>,
+) -> Result<(), AllocError>
+    ensures before { OnOk result (IsOk before) }
+    ensures notes { OnOk result (mentions.new.items ≡ mentions.old.items ++ spec.mentions_in expr.now.value) }
+{
+    match before {
+        Ok(()) => mentions_in(expr, mentions),
+        Err(e) => Err(e),
+    }
+}
+
+/// Notes what each of these expressions mentions, where what comes before them in the text is noted.
+#[cycle(mentions)]
+pub(crate) fn each_after(
+    before: Result<(), AllocError>,
+    exprs: &Rc<Vec<Expr>>,
+    mentions: &mut Vec<Mention>,
+) -> Result<(), AllocError>
+    ensures before { OnOk result (IsOk before) }
+    ensures notes { OnOk result (mentions.new.items ≡ mentions.old.items ++ flat_map spec.mentions_in exprs.now.value.items) }
+{
+    match before {
+        Ok(()) => mentions_in_each(exprs, mentions),
+        Err(e) => Err(e),
     }
 }
 
@@ -61,6 +91,27 @@ pub(crate) fn mentions_in_each(
         mentions_in(expr, mentions)?;
     }
     Ok(())
+}
+
+/// Notes what the expressions of a list mention.
+pub(crate) fn mentions_in_list(
+    exprs: &Rc<Vec<Expr>>,
+    mentions: &mut Vec<Mention>,
+) -> Result<(), AllocError>
+    ensures { OnOk result (mentions.new.items ≡ mentions.old.items ++ flat_map spec.mentions_in exprs.now.value.items) }
+{
+    mentions_in_each(exprs, mentions)
+}
+
+/// Notes what the items of a table constructor mention.
+#[cycle(mentions)]
+fn mentions_in_table(
+    items: &Rc<Vec<TableItem>>,
+    mentions: &mut Vec<Mention>,
+) -> Result<(), AllocError>
+    ensures { OnOk result (mentions.new.items ≡ mentions.old.items ++ flat_map spec.mentions_in_item items.now.value.items) }
+{
+    mentions_in_items(items, mentions)
 }
 
 /// Notes what each of these items mentions.

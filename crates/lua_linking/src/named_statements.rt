@@ -1,10 +1,12 @@
 //! What statements mention, in the order of the text.
 
-ghost use Rattle.std.specs.Prelude.{◌≡◌, ◌++◌, OnOk, [], MatchOption, flat_map};
+ghost use Rattle.std.specs.Prelude.{◌≡◌, ◌++◌, IsOk, OnOk, [], MatchOption, flat_map};
 ghost use Rattle.lua_linking.specs.Mentions as spec;
 
 use crate::mentions::{Mention, mention_function};
-use crate::named_expressions::{mentions_in, mentions_in_each};
+use crate::named_expressions::{
+    each_after, mentions_after, mentions_in, mentions_in_list, mentions_in_shared,
+};
 use lua_ast::{Arm, Expr, Stmt, StmtKind};
 use std::alloc::AllocError;
 use std::rc::Rc;
@@ -16,25 +18,17 @@ fn mentions_in_stmt(stmt: &Stmt, mentions: &mut Vec<Mention>) -> Result<(), Allo
     ensures { OnOk result (mentions.new.items ≡ mentions.old.items ++ spec.mentions_in_stmt stmt.now) }
 {
     match &stmt.kind {
-        StmtKind::Local(_, values) => mentions_in_each(values, mentions),
+        StmtKind::Local(_, values) | StmtKind::Return(values) => mentions_in_list(values, mentions),
         StmtKind::LocalFunction(_, number) => mention_function(*number, mentions),
-        StmtKind::Assign(targets, values) => {
-            mentions_in_each(targets, mentions)?;
-            mentions_in_each(values, mentions)
-        }
+        StmtKind::Assign(targets, values) => mentions_in_lists(targets, values, mentions),
         StmtKind::Call(call) => mentions_in(call, mentions),
-        StmtKind::Do(body) => mentions_in_block(body, mentions),
-        StmtKind::While(test, body) => {
-            mentions_in(test, mentions)?;
-            mentions_in_block(body, mentions)
-        }
+        StmtKind::Do(body) => mentions_in_body(body, mentions),
+        StmtKind::While(test, body) => mentions_in_while(body, test, mentions),
         StmtKind::Repeat(body, test) => {
-            mentions_in_block(body, mentions)?;
-            mentions_in(test, mentions)
+            mentions_after(mentions_in_body(body, mentions), test, mentions)
         }
         StmtKind::If(arms, otherwise) => {
-            mentions_in_arms(arms, mentions)?;
-            mentions_in_block(otherwise, mentions)
+            block_after(mentions_in_choices(arms, mentions), otherwise, mentions)
         }
         StmtKind::NumericFor {
             slot: _,
@@ -42,21 +36,91 @@ fn mentions_in_stmt(stmt: &Stmt, mentions: &mut Vec<Mention>) -> Result<(), Allo
             to,
             step,
             body,
-        } => {
-            mentions_in_range(from, to, step, mentions)?;
-            mentions_in_block(body, mentions)
-        }
+        } => mentions_in_numeric(body, from, to, step, mentions),
         StmtKind::GenericFor {
             slots: _,
             values,
             body,
-        } => {
-            mentions_in_each(values, mentions)?;
-            mentions_in_block(body, mentions)
-        }
-        StmtKind::Return(values) => mentions_in_each(values, mentions),
+        } => mentions_in_generic(body, values, mentions),
         StmtKind::Break => Ok(()),
     }
+}
+
+/// Notes what the statements of a body mention.
+#[cycle(statement)]
+fn mentions_in_body(body: &Rc<Vec<Stmt>>, mentions: &mut Vec<Mention>) -> Result<(), AllocError>
+    ensures { OnOk result (mentions.new.items ≡ mentions.old.items ++ flat_map spec.mentions_in_stmt body.now.value.items) }
+{
+    mentions_in_block(body, mentions)
+}
+
+/// Notes what each statement of a block mentions, where what comes before them in the text is noted.
+#[cycle(statement)]
+fn block_after(
+    before: Result<(), AllocError>,
+    block: &Rc<Vec<Stmt>>,
+    mentions: &mut Vec<Mention>,
+) -> Result<(), AllocError>
+    ensures before { OnOk result (IsOk before) }
+    ensures notes { OnOk result (mentions.new.items ≡ mentions.old.items ++ flat_map spec.mentions_in_stmt block.now.value.items) }
+{
+    match before {
+        Ok(()) => mentions_in_block(block, mentions),
+        Err(e) => Err(e),
+    }
+}
+
+/// Notes what two lists of expressions mention.
+fn mentions_in_lists(
+    targets: &Rc<Vec<Expr>>,
+    values: &Rc<Vec<Expr>>,
+    mentions: &mut Vec<Mention>,
+) -> Result<(), AllocError>
+    ensures { OnOk result (mentions.new.items ≡ mentions.old.items
+        ++ (flat_map spec.mentions_in targets.now.value.items ++ flat_map spec.mentions_in values.now.value.items)) }
+{
+    each_after(mentions_in_list(targets, mentions), values, mentions)
+}
+
+/// Notes what the test and the body of a loop mention.
+#[cycle(statement)]
+fn mentions_in_while(
+    body: &Rc<Vec<Stmt>>,
+    test: &Rc<Expr>,
+    mentions: &mut Vec<Mention>,
+) -> Result<(), AllocError>
+    ensures { OnOk result (mentions.new.items ≡ mentions.old.items
+        ++ (spec.mentions_in test.now.value ++ flat_map spec.mentions_in_stmt body.now.value.items)) }
+{
+    block_after(mentions_in_shared(test, mentions), body, mentions)
+}
+
+/// Notes what the numbers and the body of a loop mention.
+#[cycle(statement)]
+fn mentions_in_numeric(
+    body: &Rc<Vec<Stmt>>,
+    from: &Rc<Expr>,
+    to: &Rc<Expr>,
+    step: &Option<Rc<Expr>>,
+    mentions: &mut Vec<Mention>,
+) -> Result<(), AllocError>
+    ensures { OnOk result (mentions.new.items ≡ mentions.old.items
+        ++ (spec.mentions_in_range from.now.value to.now.value step.now ++ flat_map spec.mentions_in_stmt body.now.value.items)) }
+{
+    block_after(mentions_in_range(from, to, step, mentions), body, mentions)
+}
+
+/// Notes what the values and the body of a loop mention.
+#[cycle(statement)]
+fn mentions_in_generic(
+    body: &Rc<Vec<Stmt>>,
+    values: &Rc<Vec<Expr>>,
+    mentions: &mut Vec<Mention>,
+) -> Result<(), AllocError>
+    ensures { OnOk result (mentions.new.items ≡ mentions.old.items
+        ++ (flat_map spec.mentions_in values.now.value.items ++ flat_map spec.mentions_in_stmt body.now.value.items)) }
+{
+    block_after(mentions_in_list(values, mentions), body, mentions)
 }
 
 /// Notes what the numbers of a loop mention: the first, the last, and the step if there is one.
@@ -90,6 +154,14 @@ pub(crate) fn mentions_in_block(
     Ok(())
 }
 
+/// Notes what the arms of an `if` mention.
+#[cycle(statement)]
+fn mentions_in_choices(arms: &Rc<Vec<Arm>>, mentions: &mut Vec<Mention>) -> Result<(), AllocError>
+    ensures { OnOk result (mentions.new.items ≡ mentions.old.items ++ flat_map spec.mentions_in_arm arms.now.value.items) }
+{
+    mentions_in_arms(arms, mentions)
+}
+
 /// Notes what each arm of an `if` mentions.
 #[cycle(statement)]
 fn mentions_in_arms(arms: &[Arm], mentions: &mut Vec<Mention>) -> Result<(), AllocError>
@@ -106,6 +178,5 @@ fn mentions_in_arms(arms: &[Arm], mentions: &mut Vec<Mention>) -> Result<(), All
 fn mentions_in_arm(arm: &Arm, mentions: &mut Vec<Mention>) -> Result<(), AllocError>
     ensures { OnOk result (mentions.new.items ≡ mentions.old.items ++ spec.mentions_in_arm arm.now) }
 {
-    mentions_in(&arm.test, mentions)?;
-    mentions_in_block(&arm.body, mentions)
+    block_after(mentions_in(&arm.test, mentions), &arm.body, mentions)
 }

@@ -1,5 +1,5 @@
 -- What was read before, and what is read after it.
-use Rattle.std.proofs.Common.{◌≡◌, ◌<◌, ◌≤◌, ℕ, arith, min, List, Result, Ok, Err, IfOk, IfErr, OnOk, MatchResult, subst}
+use Rattle.std.proofs.Common.{◌≡◌, ◌<◌, ◌≤◌, ◌⊎◌, ℕ, arith, min, inl, inr, List, Result, Ok, Err, IfOk, IfErr, OnOk, MatchResult, subst, sym}
 use Rattle.lua_grammar.specs.declared.operators.Operator.{Operator}
 use Rattle.lua_grammar.specs.Operators.{right_level}
 use Rattle.lua_grammar.specs.Stopping.{EndsAt}
@@ -17,7 +17,7 @@ use Rattle.lua_parser_base.specs.Next.{Begin, IsMemory, Misses, OnAt, ahead}
 use Rattle.lua_parser_base.specs.Nodes.{IsBinary}
 use Rattle.lua_parser_base.specs.Reads.{ReadsExp}
 use Rattle.lua_parser_base.specs.StatementRefusals.{RefusesLoop}
-use Rattle.lua_parser_base.specs.States.{Advances, AdvancesOrStays, State}
+use Rattle.lua_parser_base.specs.States.{Advances, AdvancesOrStays, State, state}
 use Rattle.lua_parser.specs.Parts.{ReadsRight}
 
 -- what a call says of its value, where it answered one
@@ -76,3 +76,14 @@ never_there P Q s t fault m next h = absurd m
 pub done_node : {A X : Type 0} (P : Type 0) (Q : ParseFault → Type 0) (r : Result A ParseFault) → MatchResult r (λ x. P) Q → (P → X) → OnOk r X
 done_node P Q (Ok x) h f = f h
 done_node P Q (Err fault) h f = tt
+
+-- what is put after others, and was refused or found no memory
+pub pushed_refused : {A : Type 0} (P : ParseFault → Type 0) (r : Result A ParseFault) (fault : ParseFault) → (r ≡ Err fault) ⊎ IsMemory fault → IfErr r P → P Memory → P fault
+pushed_refused P r fault (inl is) refuses memory = refused_by P r fault is refuses
+pushed_refused P r fault (inr is) refuses memory = subst P (sym is) memory
+
+-- what stands before a keyword, and was refused, or the keyword is missed
+pub before_refused : {A : Type 0} (Missed : ParseFault → Type 0) (R : State → ParseFault → Type 0) (tokens : List Token) (p q : Parser) (r : Result A ParseFault) (fault : ParseFault) →
+    ((r ≡ Err fault) × (q ≡ p)) ⊎ ((x : A) × (r ≡ Ok x) × Missed fault) → IfErr r (R (state tokens p)) → ((x : A) → r ≡ Ok x → Missed fault → R (state tokens q) fault) → R (state tokens q) fault
+before_refused Missed R tokens p q r fault (inl stays) refuses missing = subst (λ q. R (state tokens q) fault) (sym stays.1) (refused_by (R (state tokens p)) r fault stays.0 refuses)
+before_refused Missed R tokens p q r fault (inr missed) refuses missing = missing missed.0 missed.1 missed.2

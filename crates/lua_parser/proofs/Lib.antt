@@ -18,3 +18,4 @@ pub mod WholeText
 pub mod Declaring
 pub mod Beside
 pub mod InnerBlocks
+pub mod Skipping

@@ -1,4 +1,4 @@
--- What is read of a part, where what stands before it is kept.
+-- What is read of a part of a production (Lua 5.1 Reference Manual, 8), where what stands before the part is kept.
 use Rattle.std.specs.Prelude.{◌≡◌, ◌<◌, ◌≤◌, ◌⊎◌, ℕ, List, min, IfNone}
 use Rattle.lua_ast.specs.declared.statements.Arm.{Arm}
 use Rattle.lua_ast.specs.declared.statements.Stmt.{Stmt}

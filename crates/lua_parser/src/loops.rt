@@ -13,7 +13,7 @@ ghost use Rattle.lua_parser_base.specs.Standing.{FirstFault};
 ghost use Rattle.lua_parser_base.specs.Standing as Standing;
 ghost use Rattle.lua_parser.specs.Parts.{ReadsRange};
 
-use crate::pairs::beside;
+use crate::pairs::{before_word, beside};
 use crate::statements::{inner_block, scoped, value, values};
 use lua_ast::{Expr, Stmt};
 use lua_lexer::{Sign, Token, Word};
@@ -40,8 +40,8 @@ pub(crate) fn while_loop(
     let line = parser.take_word(tokens, Word::While)?;
     let test = value(parser, alloc, tokens, at)?;
     let (test, _) = beside(test, parser.take_word(tokens, Word::Do))?;
-    let (test, body) = beside(test, scoped(parser, alloc, tokens, at.looped()))?;
-    let (test, _) = beside(test, parser.take_word(tokens, Word::End))?;
+    let body = scoped(parser, alloc, tokens, at.looped());
+    let (test, body) = beside(test, before_word(body, parser, tokens, Word::End))?;
     while_node(alloc, line, test, body)
 }
 
@@ -135,12 +135,14 @@ fn range(
     let from = value(parser, alloc, tokens, at)?;
     let (from, _) = beside(from, parser.take_sign(tokens, Sign::Comma))?;
     let (from, to) = beside(from, value(parser, alloc, tokens, at))?;
-    let (ends, step) = beside((from, to), step(parser, alloc, tokens, at))?;
-    Ok(Range {
-        from: ends.0,
-        to: ends.1,
-        step,
-    })
+    match step(parser, alloc, tokens, at) {
+        Ok(step) => Ok(Range { from, to, step }),
+        Err(fault) => {
+            drop(from);
+            drop(to);
+            Err(fault)
+        }
+    }
 }
 
 /// [`,´ exp]

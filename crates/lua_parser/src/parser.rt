@@ -1,14 +1,15 @@
 //! The program of a whole text, whose tokens are a chunk.
-ghost use Rattle.std.specs.Prelude.{◌≡◌, IfErr, IfOk};
+ghost use Rattle.std.specs.Prelude.{◌≡◌, ◌∷◌, [], IfErr, IfOk, MatchResult};
 ghost use Rattle.lua_ast.specs.declared.programs.Program.{Program};
 ghost use Rattle.lua_ast.specs.WholeProgram.{IsWholeProgram};
 ghost use Rattle.lua_grammar.specs.Grammar.{first_line, IsProgramOf};
 ghost use Rattle.lua_grammar.specs.Printing.{lexemes};
+ghost use Rattle.lua_parser_base.specs.Next.{IsMemory};
 ghost use Rattle.lua_parser_base.specs.Standing.{IsBroken, OnLimit};
 ghost use Rattle.lua_parser.specs.Unfit.{IsUnfit, OfAt};
 
 use crate::statements::block;
-use lua_ast::Program;
+use lua_ast::{Function, Program};
 use lua_grammar::a_program_is_whole;
 use lua_lexer::Token;
 use lua_parser_base::{Nesting, ParseFault, Parser};
@@ -30,8 +31,15 @@ pub fn parse(alloc: Global, tokens: &[Token]) -> Result<Program, ParseFault>
         return Err(parser.unfit(tokens));
     }
     let functions = parser.into_functions(alloc, body, first_line(tokens))?;
-    let files = vec![in alloc; Bytes::new()]?;
     a_program_is_whole();
+    program_of(alloc, functions)
+}
+
+/// The program of those functions, with one file without a name.
+fn program_of(alloc: Global, functions: Vec<Function>) -> Result<Program, ParseFault>
+    ensures { MatchResult result (λ program. (program.files ≡ [] ∷ []) × (program.functions ≡ functions)) IsMemory }
+{
+    let files = vec![in alloc; Bytes::new()]?;
     Ok(Program {
         files: ByteLists::of(files),
         functions,

@@ -21,7 +21,7 @@ ghost use Rattle.lua_parser_base.specs.StatementRefusals.{RefusesMethod, Refuses
 
 use crate::expressions::expression;
 use crate::loops::{for_loop, repeat_loop, while_loop};
-use crate::pairs::beside;
+use crate::pairs::{beside, push_read};
 use crate::suffixes::{expressions, prefix};
 use lua_ast::{Arm, Expr, Stmt, StmtKind};
 use lua_lexer::{Sign, Token, Word};
@@ -137,14 +137,15 @@ pub(crate) fn block(
         match parser.begins(tokens) {
             Begins::Nothing => return Ok(statements),
             Begins::Last => {
-                let last = last(parser, alloc, tokens, at)?;
-                statements.push(last)?;
+                push_read(&mut statements, last(parser, alloc, tokens, at))?;
                 parser.skip_sign(tokens, Sign::Semicolon);
                 return Ok(statements);
             }
             begins => {
-                let statement = statement(parser, alloc, tokens, at, begins)?;
-                statements.push(statement)?;
+                push_read(
+                    &mut statements,
+                    statement(parser, alloc, tokens, at, begins),
+                )?;
                 parser.skip_sign(tokens, Sign::Semicolon);
             }
         }
@@ -272,12 +273,11 @@ fn arms(
     ensures order { IfErr result (FirstFault (Standing.arms at) (state tokens.now parser.old) (state tokens.now parser.new)) }
     ensures forward { OnOk result (Advances tokens.now parser.old parser.new) }
 {
-    let first = arm(parser, alloc, tokens, at)?;
-    let mut arms = vec![in alloc; first]?;
+    let mut arms = Vec::new(alloc);
+    push_read(&mut arms, arm(parser, alloc, tokens, at))?;
     while parser.at_word(tokens, Word::ElseIf) {
         parser.take_word(tokens, Word::ElseIf)?;
-        let next = arm(parser, alloc, tokens, at)?;
-        arms.push(next)?;
+        push_read(&mut arms, arm(parser, alloc, tokens, at))?;
     }
     Ok(arms)
 }

@@ -38,12 +38,13 @@ pub(crate) fn prefix(
 {
     let mut prefix = primary(parser, alloc, tokens, at)?;
     while let Some(suffix) = parser.suffix_ahead(tokens) {
-        prefix = match suffix {
-            Suffix::Member => parser.member(alloc, tokens, at, prefix)?,
-            Suffix::Item => item(parser, alloc, tokens, at, prefix)?,
-            Suffix::Method => method(parser, alloc, tokens, at, prefix)?,
-            Suffix::Arguments => call(parser, alloc, tokens, at, prefix)?,
+        let extended = match suffix {
+            Suffix::Member => parser.member(alloc, tokens, at, prefix),
+            Suffix::Item => item(parser, alloc, tokens, at, prefix),
+            Suffix::Method => method(parser, alloc, tokens, at, prefix),
+            Suffix::Arguments => call(parser, alloc, tokens, at, prefix),
         };
+        prefix = extended?;
     }
     Ok(prefix)
 }
@@ -257,8 +258,7 @@ fn list_arguments(
     ensures forward { OnOk result (Advances tokens.now parser.old parser.new) }
 {
     parser.take_sign(tokens, Sign::OpenParenthesis)?;
-    if parser.at_sign(tokens, Sign::CloseParenthesis) {
-        parser.take_sign(tokens, Sign::CloseParenthesis)?;
+    if parser.skip_sign(tokens, Sign::CloseParenthesis).is_some() {
         return Ok(Values::none(alloc));
     }
     let inner = parser.part(tokens, at)?;
@@ -284,8 +284,7 @@ pub(crate) fn expressions(
 {
     let first = expression(parser, alloc, tokens, at, 1)?;
     let mut values = Values::one(alloc, first)?;
-    while parser.at_sign(tokens, Sign::Comma) {
-        parser.take_sign(tokens, Sign::Comma)?;
+    while parser.skip_sign(tokens, Sign::Comma).is_some() {
         let next = expression(parser, alloc, tokens, at, 1)?;
         values.push(next)?;
     }
@@ -307,15 +306,13 @@ pub(crate) fn table(
 {
     let open = parser.take_sign(tokens, Sign::OpenBrace)?;
     let mut items = Items::none(alloc);
-    while !parser.at_sign(tokens, Sign::CloseBrace) {
+    while parser.skip_sign(tokens, Sign::CloseBrace).is_none() {
         push_field(parser, alloc, tokens, at, &mut items)?;
-        if parser.at_sign(tokens, Sign::CloseBrace) {
-            parser.take_sign(tokens, Sign::CloseBrace)?;
+        if parser.skip_sign(tokens, Sign::CloseBrace).is_some() {
             return items.into_table(alloc, open);
         }
         parser.take_separator(tokens)?;
     }
-    parser.take_sign(tokens, Sign::CloseBrace)?;
     items.into_table(alloc, open)
 }
 
@@ -379,8 +376,13 @@ fn keyed_field(
     let key = expression(parser, alloc, tokens, at, 1)?;
     let (key, _) = beside(key, parser.take_sign(tokens, Sign::CloseBracket))?;
     let (key, _) = beside(key, parser.take_sign(tokens, Sign::Assign))?;
-    let (key, value) = beside(key, expression(parser, alloc, tokens, at, 1))?;
-    Ok(Item::pair(key, value))
+    match expression(parser, alloc, tokens, at, 1) {
+        Ok(value) => Ok(Item::pair(key, value)),
+        Err(fault) => {
+            drop(key);
+            Err(fault)
+        }
+    }
 }
 
 /// field ::= Name `=´ exp

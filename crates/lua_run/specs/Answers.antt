@@ -1,5 +1,5 @@
 -- What a site of Lua answers a request with (RFC 9110, 15).
-use Rattle.std.specs.Prelude.{ℕ, Bool, false, ◌&&◌, nat_lt, List, [], Option, Some, None, Result, Ok, Err, if◌then◌else◌}
+use Rattle.std.specs.Prelude.{ℕ, Bool, false, ◌&&◌, nat_lt, List, [], Option, Some, None, Result, Ok, Err, is_ok, if◌then◌else◌}
 use Rattle.http_in.specs.declared.framing.BodyKind.{BodyKind}
 use Rattle.http_in.specs.declared.framing.BodyKind.TheVariants as body
 use Rattle.conf.specs.declared.sites.Conf.{Conf}
@@ -39,6 +39,14 @@ located (Some location) = if location.internal then Err 404 else content_of loca
 -- a body that is too long is refused before that
 abbrev pub answer_in : BodyKind → Scope → Result ℕ ℕ
 answer_in kind scope = if is_too_long kind (settings_of scope).max_body then Err 413 else located scope.location
+
+-- whether a handler makes the reply, and not the server itself; a site has a server for each request
+abbrev pub has_handler_in : BodyKind → Option Scope → Bool
+has_handler_in kind None = false
+has_handler_in kind (Some scope) = is_ok (answer_in kind scope)
+
+abbrev pub has_handler : Conf → Req → Bool
+has_handler conf req = has_handler_in req.head.body (scope_of conf req.target)
 
 -- what a handler came to, as a reply of this type
 abbrev pub replied_by : ℕ → List ℕ → Handled → ℕ → Replied

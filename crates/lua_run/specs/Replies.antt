@@ -1,5 +1,5 @@
 -- What the exchanges of connections to a site of Lua are: each request's own reply, whatever else came on that connection or on others.
-use Rattle.std.specs.Prelude.{◌≡◌, ◌⊎◌, ℕ, List, [], ◌∷◌}
+use Rattle.std.specs.Prelude.{◌≡◌, ◌⊎◌, ℕ, true, List, [], ◌∷◌}
 use Rattle.uri_args.specs.declared.targets.Target.{Target}
 use Rattle.http_in.specs.declared.heads.Head.{Head}
 use Rattle.client_line.specs.declared.requests.LineOut.{LineOut}
@@ -9,7 +9,7 @@ use Rattle.strand_contract.specs.Alone.{moment}
 use Rattle.request_api.specs.Requests as request
 use Rattle.connection_plan.specs.Clients.{Exchange}
 use Rattle.reply_stages.specs.Replies.{refusal}
-use Rattle.lua_run.specs.Answers.{Site, reply_of}
+use Rattle.lua_run.specs.Answers.{Site, has_handler, reply_of}
 use Rattle.connection_laws.specs.Replies.{IsUpTo}
 
 -- the bytes of the site's reply to a request, at a moment
@@ -26,9 +26,13 @@ module _ {J : Type 0} (es : List (LocalAction J)) (site : Site) where
   IsWhole (out.Request head target) reply = AreMade (reply_to_head site head target) reply
   IsWhole answer reply = ⊥
 
-  -- the reply to what was asked last: that of a request may be still to come
+  -- nothing of the reply was sent yet: a handler makes it
+  abbrev pub IsToCome : Head → Target → List ℕ → Type 0
+  IsToCome head target reply = (reply ≡ []) × (has_handler site.conf (request.begun head target 0) ≡ true)
+
+  -- the reply to what was asked last: one that a handler makes may be still to come
   abbrev pub IsNewest : LineOut → List ℕ → Type 0
-  IsNewest (out.Request head target) reply = (reply ≡ []) ⊎ AreMade (reply_to_head site head target) reply
+  IsNewest (out.Request head target) reply = IsToCome head target reply ⊎ AreMade (reply_to_head site head target) reply
   IsNewest (out.Refused code) reply = AreMade (refusal code) reply
   IsNewest answer reply = ⊥
 

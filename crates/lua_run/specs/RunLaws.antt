@@ -1,5 +1,5 @@
 -- That the runs of a site of Lua meet the conditions of a run.
-use Rattle.std.proofs.Common.{◌≡◌, ℕ, ◌≤◌, ◌<◌, Bool, true, false, ◌&&◌, List, [], ◌∷◌, drop, Option, Some, None, refl, sym, ap, ◌∙◌, subst, arith, lit<}
+use Rattle.std.proofs.Common.{◌≡◌, ℕ, ◌≤◌, ◌<◌, Bool, true, false, ◌&&◌, List, [], ◌∷◌, drop, Option, Some, None, refl, sym, ap, ◌∙◌, subst, arith}
 use Rattle.std.specs.Prelude.{nat_lt, nat_le, IfSome, if◌then◌else◌}
 use Rattle.resty_base.specs.declared.names.Ms.{Ms}
 use Rattle.resty_base.specs.BoolLaws.{one-falls}
@@ -13,22 +13,22 @@ use Rattle.strand_contract.specs.Alone.{sooner, due}
 use Rattle.strand_plans.specs.Questions.{Question, asking_if}
 use Rattle.strand_plans.specs.Questions as question
 use Rattle.strand_plans.specs.Ledgers.{Ledger, has, entered}
-use Rattle.strand_plans.specs.Moves.{Move, Done, Set, perform}
 use Rattle.strand_plans.specs.Turns.{IsDue}
 use Rattle.run_contract.specs.declared.turns.RunSeen.{RunSeen}
 use Rattle.run_contract.specs.declared.turns.RunSeen.TheVariants as seen
 use Rattle.run_contract.specs.declared.turns.SockSeen.{SockSeen}
 use Rattle.run_contract.specs.declared.turns.SockSeen.TheVariants as at
-use Rattle.run_contract.specs.declared.turns.Said.{Said}
-use Rattle.run_contract.specs.Runs.{Waits, RunPlan, performed, waits_at_first, waits_told, waits_said, is_of_client}
+use Rattle.run_contract.specs.Deeds.{ledger_after}
+use Rattle.run_contract.specs.Runs.{Waits, waits_at_first, waits_told, waits_did, is_of_client}
 use Rattle.run_contract.specs.Alike.{own_deadlines, AreAlike}
-use Rattle.run_contract.specs.Forms.{IsOwn}
-use Rattle.run_contract.specs.Conditions.{IsBlank, MayComeAt, MayCome, IsLeft, Leaves, Fits, entered_as, IsRun}
+use Rattle.run_contract.specs.Conditions.{IsBlank, MayComeAt, MayCome, Leaves, Fits, entered_as, IsRun}
+use Rattle.request_api.specs.declared.requests.Req.{Req}
 use Rattle.request_api.specs.Requests as request
+use Rattle.reply_stages.specs.declared.replies.Sent.{Sent}
 use Rattle.lua_run.specs.declared.run.Work.{Work}
 use Rattle.lua_run.specs.declared.run.Work.TheVariants.{Request, Job, Over}
-use Rattle.lua_run.specs.Answers.{Site}
-use Rattle.lua_run.specs.Runs.{Run, LuaHolds, MayWait, lua_plan, lua_turn, lua_works, logging, work_line, work_said, threads_of}
+use Rattle.lua_run.specs.Answers.{Site, has_handler, reply_of}
+use Rattle.lua_run.specs.Runs.{Run, LuaHolds, MayWait, lua_plan, lua_works, begins_by, reply_deeds, work_deeds, threads_of}
 
 never-over : {C : Type 0} → false ≡ true → C
 never-over e = absurd (cc)
@@ -90,23 +90,26 @@ has-work k rest line None Over e n h = absurd (let f : k ∷ rest ≡ [] = sym e
 
 pub runs-once : {J : Type 0} (site : Site) (now k : ℕ) (b : Ledger J) (r : Run) → LuaHolds b r
     → MayCome (lua_plan site) now (seen.Run k) b r → (r.work ≡ Over → ⊥) × (drop 1 b.threads ≡ [])
-runs-once site now k b r h x = has-work k x.0.0 b.threads b.asked r.work (sym x.0.1) x.1 h.threads
+runs-once site now k b r h x = has-work k x.0.0 b.threads b.asked r.work (sym x.0.1) x.1.outside h.threads
 
--- otherwise it is only told that its client is gone
+-- else all that it is told is that its client ends or is gone
 abbrev pub IsElse : RunSeen → Type 0
 IsElse (seen.Run k) = ⊥
+IsElse seen.ClientEnded = ⊥
 IsElse seen.ClientGone = ⊥
 IsElse s = Unit {0}
 
 pub none-else : {J C : Type 0} (site : Site) (now : ℕ) (s : RunSeen) (b : Ledger J) (r : Run) → LuaHolds b r
     → MayCome (lua_plan site) now s b r → IsElse s → C
 none-else site now (seen.Run k) b r h x e = absurd e
+none-else site now seen.ClientEnded b r h x e = absurd e
 none-else site now seen.ClientGone b r h x e = absurd e
 none-else site now (seen.Due n) b r h x e = none-due b r now n h x.0 x.1
-none-else site now (seen.Sock k s) b r h x e = none-comes b r k s h x
-none-else site now (seen.Body content waited) b r h x e = never-over x.1
-none-else site now (seen.BodyRefused code) b r h x e = never-over x.1
-none-else site now seen.AllTaken b r h x e = never-over x.1
+none-else site now (seen.Sock k s) b r h x e = none-comes b r k s h x.0
+none-else site now (seen.Body content waited) b r h x e = never-over x.1.0
+none-else site now (seen.BodyRefused code) b r h x e = never-over x.1.0
+none-else site now seen.AllTaken b r h x e = never-over x.1.0
+none-else site now seen.NotYet b r h x e = never-over x.1
 
 -- an answer is one about a timer, while there is work
 pub record IsAnswered {J : Type 0} (b : Ledger J) (r : Run) (x : Action J) : Type 0 where
@@ -135,21 +138,26 @@ is-answered b r x a h e = answers-of b r x a b.asked h.threads h.asked e
 
 -- ---- the conditions
 
--- nothing of what it says changes for what it waits
-said-waits : (site : Site) (now : ℕ) (w : Work) (client : Bool) → waits_at_first client ≡ waits_said (work_said site now w) (waits_at_first client)
-said-waits site now (Request req) client = refl
-said-waits site now Job client = refl
-said-waits site now Over client = refl
+-- the reply leaves its ledger, and what it waits for
+reply-kept : {J : Type 0} (line : Option (List ℕ)) (sent : Sent) (b : Ledger J) → ledger_after (reply_deeds (record { line = line; sent = sent })) b ≡ b
+reply-kept None sent b = refl
+reply-kept (Some line) sent b = refl
 
--- a line of the log changes nothing of what a turn leaves, nor of whose its moves are
-left-logged : {J : Type 0} (p : RunPlan J Run) (holds : Ledger J → Run → Type 0) (w : Waits) (words : List Said) (line : Option (List ℕ)) (m : Move J Run)
-    (b : Ledger J) (r : Run) → IsLeft p holds w words (perform m b r) → IsLeft p holds w words (perform (logging line m) b r)
-left-logged p holds w words None m b r h = h
-left-logged p holds w words (Some line) m b r h = record { known = h.known; waits = h.waits; over = h.over }
+reply-waits : (line : Option (List ℕ)) (sent : Sent) (client : Bool)
+    → waits_did (reply_deeds (record { line = line; sent = sent })) (waits_at_first client) ≡ waits_at_first client
+reply-waits None sent client = refl
+reply-waits (Some line) sent client = refl
 
-own-logged : {J : Type 0} (line : Option (List ℕ)) (m : Move J Run) → IsOwn m → IsOwn (logging line m)
-own-logged None m h = h
-own-logged (Some line) m h = h
+-- and so does all its work
+work-kept : {J : Type 0} (site : Site) (now : ℕ) (w : Work) (b : Ledger J) → ledger_after (work_deeds site now w) b ≡ b
+work-kept site now (Request req) b = let r = reply_of site req now in reply-kept r.line r.sent b
+work-kept site now Job b = refl
+work-kept site now Over b = refl
+
+work-waits : (site : Site) (now : ℕ) (w : Work) (client : Bool) → waits_did (work_deeds site now w) (waits_at_first client) ≡ waits_at_first client
+work-waits site now (Request req) client = let r = reply_of site req now in reply-waits r.line r.sent client
+work-waits site now Job client = refl
+work-waits site now Over client = refl
 
 -- where nothing of it is left it may have no work
 idles : {J : Type 0} (b : Ledger J) (client : Bool) → IsBlank b → LuaHolds b (record { work = Over; client = client })
@@ -163,18 +171,18 @@ idles {J} b client h = record {
 
 -- it does its work where nothing else is left of it
 works : {J : Type 0} (site : Site) (now : ℕ) (b : Ledger J) (r : Run) → IsBlank b
-    → Leaves (lua_plan site) LuaHolds (waits_at_first r.client) (lua_works site now r) b r
-works site now b r h =
-    left-logged (lua_plan site) LuaHolds (waits_at_first r.client) (work_said site now r.work) (work_line site now r.work)
-    (Set (λ r. record r { work = Over }) Done) b r (record {
-      known = idles b r.client h;
-      waits = said-waits site now r.work r.client;
-      over = λ e. h;
-    })
+    → Leaves (lua_plan site) LuaHolds (waits_at_first r.client) (lua_works site now r) b
+works {J} site now b r h =
+    let kept = sym (work-kept site now r.work b) in
+    record {
+      known = subst (λ (c : Ledger J). LuaHolds c (record { work = Over; client = r.client })) kept (idles b r.client h);
+      waits = ap (λ (w : Waits). record w { asks = None }) (sym (work-waits site now r.work r.client));
+      over = λ e. (subst (λ (c : Ledger J). IsBlank c) kept h, refl);
+    }
 
 stays : {J : Type 0} (site : Site) (now : ℕ) (s : RunSeen) (b : Ledger J) (r : Run) → LuaHolds b r → MayCome (lua_plan site) now s b r
     → Leaves (lua_plan site) LuaHolds (waits_told s ((lua_plan {J = J} site).waits r))
-    ((lua_plan site).turn now s (entered_as s b) r) (entered_as s b) r
+    ((lua_plan site).turn now s (entered_as s b) r) (entered_as s b)
 stays site now (seen.Run k) b r h x = works site now (entered_as (seen.Run k) b) r (record {
   no_thread = (runs-once site now k b r h x).1;
   no_deadline = h.no_deadline;
@@ -188,6 +196,8 @@ stays site now seen.ClientGone b r h x =
       waits = refl;
       over = λ e. never-over e;
     }
+stays site now seen.ClientEnded b r h x = record { known = h; waits = refl; over = λ e. never-over e }
+stays site now seen.NotYet b r h x = none-else site now seen.NotYet b r h x tt
 stays site now (seen.Due n) b r h x = none-else site now (seen.Due n) b r h x tt
 stays site now (seen.Sock k s) b r h x = none-else site now (seen.Sock k s) b r h x tt
 stays site now (seen.Body content waited) b r h x = none-else site now (seen.Body content waited) b r h x tt
@@ -197,11 +207,11 @@ stays site now seen.AllTaken b r h x = none-else site now seen.AllTaken b r h x 
 answers : {J : Type 0} (site : Site) (now : ℕ) (x : Action J) (a : Answer) (b : Ledger J) (r : Run) → LuaHolds b r
     → answered (asking_if b.asked) a ≡ Some x
     → Leaves (lua_plan site) LuaHolds ((lua_plan {J = J} site).waits r)
-    ((lua_plan site).answered now x (entered (Did x) b) r) (entered (Did x) b) r
+    ((lua_plan site).answered now x (entered (Did x) b) r) (entered (Did x) b)
 answers {J} site now x a b r h e =
     let w = is-answered b r x a h e in
     let leaves : Action J → Type 0 = λ y. Leaves (lua_plan site) LuaHolds ((lua_plan {J = J} site).waits r)
-    ((lua_plan site).answered now y (entered (Did y) b) r) (entered (Did y) b) r in
+    ((lua_plan site).answered now y (entered (Did y) b) r) (entered (Did y) b) in
     subst leaves (sym w.action) (works site now (entered (Did (Timer w.at w.given)) b) r (record {
       no_thread = w.idle;
       no_deadline = h.no_deadline;
@@ -220,9 +230,9 @@ apart b c r same h = record {
       (sym (same.sent k) ∙ u.0, sym (same.taken k) ∙ u.1, sym (same.put_off k) ∙ u.2);
 }
 
-begins : {J : Type 0} (b : Ledger J) (w : Work) (client : Bool) → threads_of {J = J} None w ≡ 0 ∷ [] → IsBlank b
+queues : {J : Type 0} (b : Ledger J) (w : Work) (client : Bool) → threads_of {J = J} None w ≡ 0 ∷ [] → IsBlank b
     → LuaHolds (record b { threads = 0 ∷ [] }) (record { work = w; client = client })
-begins {J} b w client queued h = record {
+queues {J} b w client queued h = record {
   threads = sym (ap (λ o. threads_of o w) h.none_asked ∙ queued);
   asked = subst (λ (o : Option (Question J)). IfSome o (MayWait w)) (sym h.none_asked) tt;
   no_deadline = h.no_deadline;
@@ -230,47 +240,45 @@ begins {J} b w client queued h = record {
   unused = h.unused;
 }
 
+-- with a thread or at once
+begins : {J : Type 0} (site : Site) (now : ℕ) (req : Req) (c : Bool) (b : Ledger J) → IsBlank b
+    → Leaves (lua_plan site) LuaHolds (waits_at_first true) (begins_by c site now (record { work = Request req; client = true })) b
+begins site now req true b h = rw h.no_thread (record { known = queues b (Request req) true refl h; waits = refl; over = λ e. never-over e })
+begins site now req false b h = works site now b (record { work = Request req; client = true }) h
+
 -- what may wait fits
 fits : {J : Type 0} (site : Site) (w : Work) (x : Question J) → MayWait w x → Fits (lua_plan site) x
 fits site w (question.Timer at job) m = tt
 fits site w x m = absurd m
 
-own : {J : Type 0} (site : Site) (now : ℕ) (s : RunSeen) (b : Ledger J) (r : Run) → IsOwn (lua_turn site now s b r).moves
-own site now (seen.Run k) b r = own-logged (work_line site now r.work) (Set (λ r. record r { work = Over }) Done) tt
-own site now seen.ClientGone b r = tt
-own site now s b r = tt
-
 falls : {J : Type 0} (site : Site) (now : ℕ) (s : RunSeen) (b : Ledger J) (r : Run) → LuaHolds b r
     → MayCome (lua_plan site) now s b r → is_of_client s ≡ true
     → let p = lua_plan {J = J} site in let c = entered_as s b in
-    p.tells_left (performed (p.turn now s c r) c r).state.inner < p.tells_left r
+    p.tells_left (p.turn now s c r).run < p.tells_left r
 falls site now seen.ClientGone b r h x e = one-falls r.client x.1
 falls site now (seen.Run k) b r h x e = never-over e
 falls site now (seen.Due n) b r h x e = never-over e
 falls site now (seen.Sock k s) b r h x e = never-over e
-falls site now (seen.Body content waited) b r h x e = never-over x.1
-falls site now (seen.BodyRefused code) b r h x e = never-over x.1
-falls site now seen.AllTaken b r h x e = never-over x.1
+falls site now (seen.Body content waited) b r h x e = never-over x.1.0
+falls site now (seen.BodyRefused code) b r h x e = never-over x.1.0
+falls site now seen.AllTaken b r h x e = never-over x.1.0
+falls site now seen.NotYet b r h x e = never-over x.1
+falls site now seen.ClientEnded b r h x e = never-over e
 
 pub lua-is-run : {J : Type 0} (site : Site) → IsRun {J = J} (lua_plan site) LuaHolds
 lua-is-run site = record {
-  begins = λ now head target b h.
-      rw h.no_thread (record { known = begins b (Request (request.begun head target 0)) true refl h; waits = refl; over = λ e. never-over e });
-  begins_job = λ now premature job b h. rw h.no_thread (record { known = begins b Job false refl h; waits = refl; over = λ e. never-over e });
+  begins = λ now head target b h. let req = request.begun head target 0 in begins site now req (has_handler site.conf req) b h;
+  begins_job = λ now premature job b h. rw h.no_thread (record { known = queues b Job false refl h; waits = refl; over = λ e. never-over e });
   stays = λ now s b r h x. stays site now s b r h x;
   answers = λ now x given b r h e. answers site now x given b r h e;
   falls = λ now s b r h x e. falls site now s b r h x e;
   apart = λ b c r same h. apart b c r same h;
   asks = λ b r x h e. fits site r.work x (subst (λ o. IfSome o (MayWait r.work)) e h.asked);
-  begins_by_own = λ now head target b. tt;
-  begins_job_by_own = λ now premature job b. tt;
-  moves_by_own = λ now s b r. own site now s b r;
-  answers_by_own = λ now x b r. own-logged (work_line site now r.work) (Set (λ r. record r { work = Over }) Done) tt;
   job = λ now premature job b. (tt, refl);
   due = λ now n b r. (tt, refl);
   gone = λ now b r. (tt, refl);
-  lost = λ now k b r h x. none-comes b r k at.Lost h x;
-  again = λ now k b r h x. none-comes b r k at.Ready h x;
+  lost = λ now k b r h x. none-comes b r k at.Lost h x.0;
+  again = λ now k b r h x. none-comes b r k at.Ready h x.0;
 }
 
 -- the most that one can do

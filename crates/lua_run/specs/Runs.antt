@@ -1,73 +1,69 @@
--- The runs of a site of Lua: each answers its request with one reply, once its thread runs.
-use Rattle.std.specs.Prelude.{◌≡◌, ◌≢◌, ℕ, ◌+◌, ◌≤◌, Bool, true, false, List, [], ◌∷◌, length, slice_get, Option, Some, None, IfSome, if◌then◌else◌}
+-- The runs of a site of Lua: each answers its request with one reply, once its thread runs, or at once where no handler answers.
+use Rattle.std.specs.Prelude.{◌≡◌, ◌≢◌, ℕ, ◌+◌, ◌≤◌, Bool, true, false, List, [], ◌∷◌, ◌++◌, length, slice_get, Option, Some, None, IfSome, if◌then◌else◌}
 use Rattle.std.specs.Option.{option_map_or}
 use Rattle.strand_contract.specs.declared.turns.Place.TheVariants as place
 use Rattle.strand_plans.specs.Ledgers.{Ledger, has}
 use Rattle.strand_plans.specs.Questions.{Question}
 use Rattle.strand_plans.specs.Questions as question
-use Rattle.strand_contract.specs.declared.turns.Act.{Act}
-use Rattle.strand_contract.specs.declared.turns.Act.TheVariants as act
-use Rattle.strand_plans.specs.Moves.{Move, Done, Set}
-use Rattle.strand_plans.specs.Moves as move
+use Rattle.request_api.specs.declared.requests.Req.{Req}
 use Rattle.request_api.specs.Requests as request
 use Rattle.run_contract.specs.declared.turns.RunSeen.{RunSeen}
 use Rattle.run_contract.specs.declared.turns.RunSeen.TheVariants as seen
-use Rattle.run_contract.specs.declared.turns.Said.{Said}
 use Rattle.run_contract.specs.declared.turns.Said.TheVariants as said
-use Rattle.run_contract.specs.Runs.{Turn, RunPlan, waits_at_first}
+use Rattle.run_contract.specs.Deeds.{Deed, Ready, Log, Say, Turn, Nothing}
+use Rattle.run_contract.specs.Runs.{RunPlan, waits_at_first}
 use Rattle.run_contract.specs.Alike.{own_deadlines}
 use Rattle.run_contract.specs.Conditions.{IsUnused}
 use Rattle.conf.specs.declared.sites.Conf.{Conf}
+use Rattle.lua_run.specs.declared.answers.Replied.{Replied}
 use Rattle.lua_run.specs.declared.run.Work.{Work}
 use Rattle.lua_run.specs.declared.run.Work.TheVariants.{Request, Job, Over}
-use Rattle.reply_stages.specs.declared.replies.Sent.{Sent}
-use Rattle.lua_run.specs.Answers.{Site, reply_of}
+use Rattle.lua_run.specs.Answers.{Site, has_handler, reply_of}
 
 -- what is to be done, and whether the client is there
 pub record Run : Type 0 where
   pub work : Work
   pub client : Bool
 
+-- a line of the log, if there is one
+abbrev pub logged : Option (List ℕ) → List Deed
+logged None = []
+logged (Some line) = Log line ∷ []
+
 -- the reply, whole, after which nothing is left
-abbrev pub reply_said : Sent → List Said
-reply_said sent = said.Send sent.bytes ∷ said.Ended sent.closes ∷ said.Over ∷ []
+abbrev pub reply_deeds : Replied → List Deed
+reply_deeds r = logged r.line ++ Say (said.Send r.sent.bytes) ∷ Say (said.Ended r.sent.closes) ∷ Say said.Over ∷ []
 
 -- a job does nothing
-abbrev pub work_said : Site → ℕ → Work → List Said
-work_said site now (Request req) = reply_said (reply_of site req now).sent
-work_said site now Job = said.Over ∷ []
-work_said site now Over = []
-
--- a line of the log, if there is one
-abbrev pub logging : {J : Type 0} → Option (List ℕ) → Move J Run → Move J Run
-logging None m = m
-logging (Some line) m = move.Log line m
-
--- the line that the work writes
-abbrev pub work_line : Site → ℕ → Work → Option (List ℕ)
-work_line site now (Request req) = (reply_of site req now).line
-work_line site now w = None
+abbrev pub work_deeds : Site → ℕ → Work → List Deed
+work_deeds site now (Request req) = reply_deeds (reply_of site req now)
+work_deeds site now Job = Say said.Over ∷ []
+work_deeds site now Over = []
 
 -- the work is done
 abbrev pub lua_works : {J : Type 0} → Site → ℕ → Run → Turn J Run
-lua_works site now r = record { moves = logging (work_line site now r.work) (Set (λ r. record r { work = Over }) Done); said = work_said site now r.work }
+lua_works site now r = record { does = work_deeds site now r.work; asks = Nothing; run = record r { work = Over } }
 
--- its acts
-abbrev pub line_acts : {J : Type 0} → Option (List ℕ) → List (Act J)
-line_acts None = []
-line_acts (Some line) = act.Log line ∷ []
+abbrev pub silent : {J : Type 0} → Run → Turn J Run
+silent r = record { does = []; asks = Nothing; run = r }
 
-abbrev pub work_acts : {J : Type 0} → Site → ℕ → Work → List (Act J)
-work_acts site now w = line_acts (work_line site now w)
-
+-- that the client sends no more changes nothing
 abbrev pub lua_turn : {J : Type 0} → Site → ℕ → RunSeen → Ledger J → Run → Turn J Run
 lua_turn site now (seen.Run k) b r = lua_works site now r
-lua_turn site now seen.ClientGone b r = record { moves = Set (λ r. record r { client = false }) Done; said = [] }
-lua_turn site now s b r = record { moves = Done; said = [] }
+lua_turn site now seen.ClientGone b r = silent (record r { client = false })
+lua_turn site now s b r = silent r
 
 -- its thread is put in line
-abbrev pub lua_begins : {J : Type 0} → Work → Bool → Turn J Run
-lua_begins work client = record { moves = Set (λ r. record { work = work; client = client }) (move.Ready 0 Done); said = [] }
+abbrev pub queued : {J : Type 0} → Run → Turn J Run
+queued r = record { does = Ready 0 ∷ []; asks = Nothing; run = r }
+
+-- a handler has a thread; where none answers, the reply is made at once
+abbrev pub begins_by : {J : Type 0} → (has_handler : Bool) → Site → ℕ → Run → Turn J Run
+begins_by true site now r = queued r
+begins_by false site now r = lua_works site now r
+
+abbrev pub lua_begins : {J : Type 0} → Site → ℕ → Req → Turn J Run
+lua_begins site now req = begins_by (has_handler site.conf req) site now (record { work = Request req; client = true })
 
 -- the dictionaries of a configuration, by number, which no run calls yet
 abbrev pub zone_name : Conf → ℕ → List ℕ
@@ -81,8 +77,8 @@ lua_plan site = record {
   unborn = record { work = Over; client = true };
   waits = λ r. waits_at_first r.client;
   tells_left = λ r. if r.client then 1 else 0;
-  begun = λ now head target b. lua_begins (Request (request.begun head target 0)) true;
-  begun_job = λ now premature job b. lua_begins Job false;
+  begun = λ now head target b. lua_begins site now (request.begun head target 0);
+  begun_job = λ now premature job b. queued (record { work = Job; client = false });
   turn = lua_turn site;
   answered = λ now x b r. lua_works site now r;
   zones = length site.conf.zones;

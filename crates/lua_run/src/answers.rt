@@ -1,20 +1,21 @@
 //! What a site of Lua answers a request with.
 
 ghost use Rattle.std.specs.Prelude.{◌≡◌, [], IfErr, IfOk, Ok, Err, option_copied};
+ghost use Rattle.conf.specs.Reading.{IsWhole};
 ghost use Rattle.lua_values.specs.declared.values.Value.{Value as LuaValue};
 ghost use Rattle.lua_run.specs.Answers as spec;
 ghost use Rattle.lua_run.specs.Views.{handler_at, site_seen};
 ghost use Rattle.reply_stages.specs.Views.{scope_seen};
 
 use crate::sites::Site;
-use conf::{LocationConf, Settings};
+use conf::{Conf, LocationConf, Settings};
 use http_in::BodyKind;
 use lua_machine::Machine;
 use lua_values::Value;
 use reply_stages::{Scope, Sent, by_handler, line_of, of_status, scope_of};
 use request_api::Req;
 use resty_base::{Bytes, Ms};
-use run_threads::run_handler;
+use run_threads::{Handled, run_handler};
 use std::alloc::{AllocError, Global};
 
 /// Whether a body whose length is told is longer than it may be.
@@ -50,6 +51,15 @@ fn answer_in(kind: BodyKind, scope: &Scope<'_>) -> Result<u32, u16>
     }
 }
 
+/// Whether a handler makes the reply, and not the server itself.
+pub(crate) fn has_handler(conf: &Conf, req: &Req) -> bool
+    requires { IsWhole conf.now }
+    ensures { result ≡ spec.has_handler conf.now req.now }
+{
+    let scope = scope_of(conf, &req.target);
+    answer_in(req.head.body, &scope).is_ok()
+}
+
 /// What is sent, and the line of the log that is written before it, if any.
 #[derive(Debug, Drop)]
 pub(crate) struct Replied {
@@ -67,6 +77,39 @@ fn handler<M: Machine>(site: &Site<M>, number: u32) -> Value
     }
 }
 
+/// The reply by what a handler came to.
+fn replied_after(
+    alloc: Global,
+    log_level: u8,
+    default_type: &Bytes,
+    handled: Handled,
+    now: Ms,
+) -> Result<Replied, AllocError>
+    ensures { IfOk result (λ r. r ≡ spec.replied_by log_level default_type.now handled now.0) }
+{
+    match line_of(alloc, log_level, now, &handled.end) {
+        Ok(line) => with_line(line, by_handler(alloc, default_type, handled, now)),
+        Err(fault) => {
+            drop(handled);
+            Err(fault)
+        }
+    }
+}
+
+/// What is sent, behind this line of the log.
+fn with_line(line: Option<Bytes>, sent: Result<Sent, AllocError>) -> Result<Replied, AllocError>
+    ensures line { IfOk result (λ r. r.line ≡ line) }
+    ensures sent { IfOk result (λ r. sent ≡ Ok r.sent) }
+{
+    match sent {
+        Ok(sent) => Ok(Replied { line, sent }),
+        Err(fault) => {
+            drop(line);
+            Err(fault)
+        }
+    }
+}
+
 /// Runs the handler of a number alone for the request.
 fn replied_by<M: Machine>(
     alloc: Global,
@@ -78,11 +121,17 @@ fn replied_by<M: Machine>(
 ) -> Result<Replied, AllocError>
     ensures { IfOk result (λ r. r ≡ spec.replied (site_seen M.life site.now) req default_type.now (Ok number) now.0) }
 {
-    let store = site.store.copy_store()?;
-    let handled = run_handler(alloc, &site.machine, handler(site, number), store, req)?;
-    let line = line_of(alloc, site.conf.log_level, now, &handled.end)?;
-    let sent = by_handler(alloc, default_type, handled, now)?;
-    Ok(Replied { line, sent })
+    match site.store.copy_store() {
+        Ok(store) => {
+            let function = handler(site, number);
+            let handled = run_handler(alloc, &site.machine, function, store, req)?;
+            replied_after(alloc, site.conf.log_level, default_type, handled, now)
+        }
+        Err(fault) => {
+            drop(req);
+            Err(fault)
+        }
+    }
 }
 
 /// The server's own reply of this status.

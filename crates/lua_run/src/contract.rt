@@ -1,5 +1,8 @@
 //! The contract of a run, met.
 
+ghost use Rattle.std.specs.Prelude.{◌≡◌, Ok, IfOk};
+
+use crate::answers::has_handler;
 use crate::run::{Work, queueing, silent, working};
 use crate::{LuaRun, Site};
 use http_in::Head;
@@ -13,6 +16,32 @@ use std::mem::replace;
 use strand_contract::Answer;
 use uri_args::Target;
 
+/// A run that begins with this to do, and its first turn.
+fn beginning<M>(
+    work: Work,
+    has_client: bool,
+    turn: Result<RunTurn<NoJob>, AllocError>,
+) -> Result<(LuaRun<M>, RunTurn<NoJob>), AllocError>
+    ensures work { IfOk result (λ r. r.0.work ≡ work) }
+    ensures client { IfOk result (λ r. r.0.has_client ≡ has_client) }
+    ensures turn { IfOk result (λ r. turn ≡ Ok r.1) }
+{
+    match turn {
+        Ok(turn) => {
+            let run = LuaRun {
+                work,
+                has_client,
+                machine: PhantomData,
+            };
+            Ok((run, turn))
+        }
+        Err(fault) => {
+            drop(work);
+            Err(fault)
+        }
+    }
+}
+
 impl<M: Machine> RunContract for LuaRun<M> {
     ghost use Rattle.std.specs.Prelude.{◌≡◌, ◌+◌, if◌then◌else◌};
     ghost use Rattle.lua_run.specs.Runs.{Run, lua_plan, LuaHolds, left_of_work};
@@ -25,11 +54,11 @@ impl<M: Machine> RunContract for LuaRun<M> {
 
     ghost Inner = { Run };
 
-    ghost plan = { λ site. lua_plan (site_seen M.life site) };
-
-    ghost holds = { λ site b r. LuaHolds b r };
-
-    ghost stands = { λ site run b r. (run.work ≡ r.work) × (run.has_client ≡ r.client) };
+    ghost meaning = { λ site. record {
+      plan = lua_plan (site_seen M.life site);
+      holds = λ b r. LuaHolds b r;
+      stands = λ run b r. (run.work ≡ r.work) × (run.has_client ≡ r.client);
+    } };
 
     ghost left = { λ run. left_of_work run.work + (if run.has_client then 1 else 0) };
 
@@ -59,18 +88,19 @@ impl<M: Machine> RunContract for LuaRun<M> {
 
     fn begin(
         alloc: Global,
-        _site: &Site<M>,
-        _now: Ms,
+        site: &Site<M>,
+        now: Ms,
         _sockets: u32,
         head: Head,
         target: Target,
     ) -> Result<(Self, RunTurn<NoJob>), AllocError> {
-        let run = LuaRun {
-            work: Work::Request(Req::begin(alloc, head, target, 0)),
-            has_client: true,
-            machine: PhantomData,
-        };
-        Ok((run, queueing(alloc)?))
+        let req = Req::begin(alloc, head, target, 0);
+        if has_handler(&site.conf, &req) {
+            beginning(Work::Request(req), true, queueing(alloc))
+        } else {
+            let turn = working(alloc, site, now, Work::Request(req));
+            beginning(Work::Over, true, turn)
+        }
     }
 
     fn begin_job(
@@ -80,12 +110,7 @@ impl<M: Machine> RunContract for LuaRun<M> {
         _premature: bool,
         _job: NoJob,
     ) -> Result<(Self, RunTurn<NoJob>), AllocError> {
-        let run = LuaRun {
-            work: Work::Job,
-            has_client: false,
-            machine: PhantomData,
-        };
-        Ok((run, queueing(alloc)?))
+        beginning(Work::Job, false, queueing(alloc))
     }
 
     fn given(
@@ -108,6 +133,8 @@ impl<M: Machine> RunContract for LuaRun<M> {
             | RunSeen::Body(_, _)
             | RunSeen::BodyRefused(_)
             | RunSeen::AllTaken
+            | RunSeen::NotYet
+            | RunSeen::ClientEnded
             | RunSeen::Sock(_, _) => Ok(silent(alloc)),
         }
     }

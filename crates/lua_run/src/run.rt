@@ -1,8 +1,12 @@
 //! A run that answers its request with one reply.
 
-ghost use Rattle.std.specs.Prelude.{◌≡◌, [], ◌∷◌, IfOk};
+ghost use Rattle.std.specs.Prelude.{◌≡◌, [], ◌∷◌, None, IfOk};
 ghost use Rattle.strand_contract.specs.declared.turns.Act.TheVariants as act;
+ghost use Rattle.strand_plans.specs.Ledgers.{Ledger};
+ghost use Rattle.run_contract.specs.declared.stored.NoJob.{NoJob as Job};
 ghost use Rattle.run_contract.specs.declared.turns.Said.TheVariants as said;
+ghost use Rattle.run_contract.specs.declared.turns.RunAct.TheVariants as made;
+ghost use Rattle.run_contract.specs.Deeds.{made_after};
 ghost use Rattle.lua_run.specs.Runs as spec;
 ghost use Rattle.lua_run.specs.Views.{site_seen};
 
@@ -12,7 +16,7 @@ use lua_machine::Machine;
 use reply_stages::Sent;
 use request_api::Req;
 use resty_base::{Bytes, Ms};
-use run_contract::{NoJob, RunTurn, Said};
+use run_contract::{NoJob, RunAct, RunTurn, Said};
 use std::alloc::{AllocError, Global};
 use std::collections::VecDeque;
 use std::marker::PhantomData;
@@ -37,60 +41,60 @@ pub struct LuaRun<M> {
     pub(crate) machine: PhantomData<M>,
 }
 
-/// A turn that does nothing and says nothing.
+/// A turn that does nothing.
 pub(crate) fn silent(alloc: Global) -> RunTurn<NoJob>
-    ensures acts { result.acts.items ≡ [] }
-    ensures said { result.said.items ≡ [] }
+    ensures does { result.does.items ≡ [] }
+    ensures asks { result.asks ≡ None }
 {
     RunTurn {
-        acts: VecDeque::new(alloc),
-        said: Vec::new(alloc),
+        does: VecDeque::new(alloc),
+        asks: None,
     }
 }
 
 /// A turn that puts the thread into the queue.
 pub(crate) fn queueing(alloc: Global) -> Result<RunTurn<NoJob>, AllocError>
-    ensures acts { IfOk result (λ turn. turn.acts.items ≡ act.Ready 0 ∷ []) }
-    ensures said { IfOk result (λ turn. turn.said.items ≡ []) }
+    ensures does { IfOk result (λ turn. turn.does.items ≡ made.Act (act.Ready 0) ∷ []) }
+    ensures asks { IfOk result (λ turn. turn.asks ≡ None) }
 {
     let mut turn = silent(alloc);
-    turn.acts.push_back(Act::Ready(0))?;
+    turn.does.push_back(RunAct::Act(Act::Ready(0)))?;
     Ok(turn)
 }
 
-/// A turn that writes the line into the log, if there is one, and says nothing.
+/// A turn that writes the line into the log, if there is one.
 fn logging(alloc: Global, line: Option<Bytes>) -> Result<RunTurn<NoJob>, AllocError>
-    ensures acts { IfOk result (λ turn. turn.acts.items ≡ spec.line_acts line) }
-    ensures said { IfOk result (λ turn. turn.said.items ≡ []) }
+    ensures does { IfOk result (λ turn. (b : Ledger Job) → turn.does.items ≡ made_after (spec.logged line) b) }
+    ensures asks { IfOk result (λ turn. turn.asks ≡ None) }
 {
     let mut turn = silent(alloc);
     if let Some(line) = line {
-        turn.acts.push_back(Act::Log(line))?;
+        turn.does.push_back(RunAct::Act(Act::Log(line)))?;
     }
     Ok(turn)
 }
 
 /// A turn that sends this as the whole reply.
 fn replying(alloc: Global, replied: Replied) -> Result<RunTurn<NoJob>, AllocError>
-    ensures acts { IfOk result (λ turn. turn.acts.items ≡ spec.line_acts replied.line) }
-    ensures said { IfOk result (λ turn. turn.said.items ≡ spec.reply_said replied.sent) }
+    ensures does { IfOk result (λ turn. (b : Ledger Job) → turn.does.items ≡ made_after (spec.reply_deeds replied) b) }
+    ensures asks { IfOk result (λ turn. turn.asks ≡ None) }
 {
     let Replied { line, sent } = replied;
     let Sent { bytes, closes } = sent;
     let mut turn = logging(alloc, line)?;
-    turn.said.push(Said::Send(bytes))?;
-    turn.said.push(Said::Ended(closes))?;
-    turn.said.push(Said::Over)?;
+    turn.does.push_back(RunAct::Say(Said::Send(bytes)))?;
+    turn.does.push_back(RunAct::Say(Said::Ended(closes)))?;
+    turn.does.push_back(RunAct::Say(Said::Over))?;
     Ok(turn)
 }
 
 /// A turn that ends a job.
 fn ending(alloc: Global) -> Result<RunTurn<NoJob>, AllocError>
-    ensures acts { IfOk result (λ turn. turn.acts.items ≡ []) }
-    ensures said { IfOk result (λ turn. turn.said.items ≡ said.Over ∷ []) }
+    ensures does { IfOk result (λ turn. turn.does.items ≡ made.Say said.Over ∷ []) }
+    ensures asks { IfOk result (λ turn. turn.asks ≡ None) }
 {
     let mut turn = silent(alloc);
-    turn.said.push(Said::Over)?;
+    turn.does.push_back(RunAct::Say(Said::Over))?;
     Ok(turn)
 }
 
@@ -101,8 +105,8 @@ pub(crate) fn working<M: Machine>(
     now: Ms,
     work: Work,
 ) -> Result<RunTurn<NoJob>, AllocError>
-    ensures acts { IfOk result (λ turn. turn.acts.items ≡ spec.work_acts (site_seen M.life site.now) now.0 work) }
-    ensures said { IfOk result (λ turn. turn.said.items ≡ spec.work_said (site_seen M.life site.now) now.0 work) }
+    ensures does { IfOk result (λ turn. (b : Ledger Job) → turn.does.items ≡ made_after (spec.work_deeds (site_seen M.life site.now) now.0 work) b) }
+    ensures asks { IfOk result (λ turn. turn.asks ≡ None) }
 {
     match work {
         Work::Request(req) => {

@@ -1,5 +1,5 @@
 -- What a run has to show of its plan, so that a connection over it keeps the laws of a strand.
-use Rattle.std.specs.Prelude.{◌≡◌, ℕ, ◌<◌, ◌≤◌, ◌-◌, ◌%◌, Bool, true, false, List, [], ◌∷◌, length, take, Some, None}
+use Rattle.std.specs.Prelude.{◌≡◌, ℕ, ◌<◌, ◌≤◌, ◌-◌, ◌%◌, Bool, true, false, List, [], ◌∷◌, length, take, is_some, Option, Some, None}
 use Rattle.shared_rules.specs.Ranges.{IsInRange}
 use Rattle.uri_args.specs.declared.targets.Target.{Target}
 use Rattle.http_in.specs.declared.heads.Head.{Head}
@@ -12,17 +12,17 @@ use Rattle.strand_contract.specs.Alone.{IsPrefixOf}
 use Rattle.strand_plans.specs.Questions.{Question, asking_if}
 use Rattle.strand_plans.specs.Questions as question
 use Rattle.strand_plans.specs.Ledgers.{Ledger, has, left_at, entered}
-use Rattle.strand_plans.specs.Moves.{Performed}
 use Rattle.strand_plans.specs.Turns.{IsFreeAt, IsTaking, IsDue}
-use Rattle.strand_plans.specs.Conditions.{IsServed, OnlyWakes}
+use Rattle.strand_plans.specs.Conditions.{IsServed}
 use Rattle.run_contract.specs.declared.turns.RunSeen.{RunSeen}
 use Rattle.run_contract.specs.declared.turns.RunSeen.TheVariants as seen
 use Rattle.run_contract.specs.declared.turns.SockSeen.{SockSeen}
 use Rattle.run_contract.specs.declared.turns.SockSeen.TheVariants as at
-use Rattle.run_contract.specs.declared.turns.Said.{Said}
-use Rattle.run_contract.specs.Runs.{Turn, Waits, RunPlan, performed, waits_at_first, waits_told, waits_said, is_of_client, says_over}
+use Rattle.run_contract.specs.declared.turns.Asking.{Asking}
+use Rattle.run_contract.specs.declared.turns.Asking.TheVariants as asking
+use Rattle.run_contract.specs.Deeds.{Turn, Nothing, taken, says_over, IsQuiet}
+use Rattle.run_contract.specs.Runs.{Waits, RunPlan, waits_at_first, waits_told, waits_after, is_of_client}
 use Rattle.run_contract.specs.Alike.{own_deadlines, AreAlike}
-use Rattle.run_contract.specs.Forms.{IsOwn}
 
 -- what comes at a socket, as an action: of a write, the bytes that were taken of the piece
 abbrev pub sock_action : {J : Type 0} → ℕ → SockSeen → Ledger J → Action J
@@ -63,16 +63,37 @@ MayComeAt k at.Lost b = IsTaking b (place.Sock k)
 MayComeAt k (at.Bytes bytes) b = IsFreeAt b (place.Sock k) × (0 < length bytes)
 MayComeAt k s b = IsFreeAt b (place.Sock k)
 
--- the run may be told this now: a thread that runs is the first of its queue, a deadline is its own and due, and of its client it is told
--- only what it waits for, and once that it is gone
+-- it asked for the body, or whether all is taken, and has no answer yet
+abbrev pub asks_body : Option Asking → Bool
+asks_body (Some (asking.Body max)) = true
+asks_body q = false
+
+abbrev pub asks_taken : Option Asking → Bool
+asks_taken (Some asking.AllTaken) = true
+asks_taken q = false
+
+-- it is told what answers its question; else it asks nothing, and waits for this
+abbrev pub MayHear : (answers waits : Bool) → Option Asking → Type 0
+MayHear true waits q = Unit {0}
+MayHear false waits q = (waits ≡ true) × (q ≡ None)
+
+-- no question waits, to the outside or to the connection
+pub record IsUnasked {J R : Type 0} (p : RunPlan J R) (b : Ledger J) (r : R) : Type 0 where
+  pub outside : b.asked ≡ None
+  pub within : (p.waits r).asks ≡ None
+
+-- The run may be told this now. While it has no answer of its connection, only that comes. A thread that runs is the first of its queue, a deadline is
+-- its own and due, and of its client it is told only what it asked or waits for, that the client ends, and once that it is gone.
 abbrev pub MayCome : {J R : Type 0} → RunPlan J R → ℕ → RunSeen → Ledger J → R → Type 0
-MayCome p now (seen.Run k) b r = IsPrefixOf (k ∷ []) b.threads × (b.asked ≡ None)
-MayCome p now (seen.Due n) b r = IsDue now b n × (2 ≤ n)
-MayCome p now (seen.Sock k s) b r = MayComeAt k s b
-MayCome p now (seen.Body content waited) b r = (b.asked ≡ None) × ((p.waits r).body ≡ true)
-MayCome p now (seen.BodyRefused code) b r = (b.asked ≡ None) × ((p.waits r).body ≡ true)
-MayCome p now seen.AllTaken b r = (b.asked ≡ None) × ((p.waits r).taken ≡ true)
-MayCome p now seen.ClientGone b r = (b.asked ≡ None) × ((p.waits r).client ≡ true)
+MayCome p now (seen.Run k) b r = IsPrefixOf (k ∷ []) b.threads × IsUnasked p b r
+MayCome p now (seen.Due n) b r = IsDue now b n × (2 ≤ n) × ((p.waits r).asks ≡ None)
+MayCome p now (seen.Sock k s) b r = MayComeAt k s b × ((p.waits r).asks ≡ None)
+MayCome p now (seen.Body content waited) b r = (b.asked ≡ None) × MayHear (asks_body (p.waits r).asks) (p.waits r).body (p.waits r).asks
+MayCome p now (seen.BodyRefused code) b r = (b.asked ≡ None) × MayHear (asks_body (p.waits r).asks) (p.waits r).body (p.waits r).asks
+MayCome p now seen.AllTaken b r = (b.asked ≡ None) × MayHear (asks_taken (p.waits r).asks) (p.waits r).taken (p.waits r).asks
+MayCome p now seen.NotYet b r = (b.asked ≡ None) × (is_some (p.waits r).asks ≡ true)
+MayCome p now seen.ClientEnded b r = IsUnasked p b r × ((p.waits r).client ≡ true)
+MayCome p now seen.ClientGone b r = IsUnasked p b r × ((p.waits r).client ≡ true)
 
 -- ---- what it leaves
 
@@ -89,19 +110,15 @@ pub record IsBlank {J : Type 0} (b : Ledger J) : Type 0 where
   pub none_asked : b.asked ≡ None
   pub unused : (k : ℕ) → b.count ≤ k → IsUnused (place.Sock k) b
 
--- `holds` is what the run knows of its ledger and of itself. After a turn, before which it waited so: it waits for what it said, and where
--- it says that it is over nothing of it is left.
-pub record IsLeft {J R : Type 0} (p : RunPlan J R) (holds : Ledger J → R → Type 0) (w : Waits) (words : List Said) (did : Performed J R) : Type 0 where
-  pub known : holds did.state.ledger did.state.inner
-  pub waits : p.waits did.state.inner ≡ waits_said words w
-  pub over : says_over words ≡ true → IsBlank did.state.ledger
+-- `holds` is what the run knows of its ledger and of itself. After a turn, before which it waited so: it waits for what it said and asked, and where
+-- it says that it is over nothing of it is left, and it asks nothing.
+pub record IsLeft {J R : Type 0} (p : RunPlan J R) (holds : Ledger J → R → Type 0) (w : Waits) (t : Turn J R) (b : Ledger J) : Type 0 where
+  pub known : holds b t.run
+  pub waits : p.waits t.run ≡ waits_after t w
+  pub over : says_over t.does ≡ true → IsBlank b × (t.asks ≡ Nothing)
 
-abbrev pub Leaves : {J R : Type 0} → RunPlan J R → (Ledger J → R → Type 0) → Waits → Turn J R → Ledger J → R → Type 0
-Leaves p holds w t b r = IsLeft p holds w t.said (performed t b r)
-
--- only wakes, and says nothing
-abbrev pub IsQuiet : {J R : Type 0} → Turn J R → Type 0
-IsQuiet t = OnlyWakes t.moves × (t.said ≡ [])
+abbrev pub Leaves : {J R : Type 0} → RunPlan J R → (Ledger J → R → Type 0) → Waits → Turn J R → Ledger J → Type 0
+Leaves p holds w t b = IsLeft p holds w t (taken t b).ledger
 
 -- the question fits: the dictionary is there and the call in range, and a socket is kept for 99,999,999,999 milliseconds at most
 abbrev pub Fits : {J R : Type 0} → RunPlan J R → Question J → Type 0
@@ -111,31 +128,26 @@ Fits p x = Unit {0}
 
 pub record IsRun {J R : Type 0} (p : RunPlan J R) (holds : Ledger J → R → Type 0) : Type 0 where
   pub begins : (now : ℕ) (head : Head) (target : Target) (b : Ledger J) → IsBlank b
-      → Leaves p holds (waits_at_first true) (p.begun now head target b) b p.unborn
+      → Leaves p holds (waits_at_first true) (p.begun now head target b) b
   pub begins_job : (now : ℕ) (premature : Bool) (job : J) (b : Ledger J) → IsBlank b
-      → Leaves p holds (waits_at_first false) (p.begun_job now premature job b) b p.unborn
+      → Leaves p holds (waits_at_first false) (p.begun_job now premature job b) b
   pub stays : (now : ℕ) (s : RunSeen) (b : Ledger J) (r : R) → holds b r → MayCome p now s b r
-      → Leaves p holds (waits_told s (p.waits r)) (p.turn now s (entered_as s b) r) (entered_as s b) r
+      → Leaves p holds (waits_told s (p.waits r)) (p.turn now s (entered_as s b) r) (entered_as s b)
   pub answers : (now : ℕ) (x : Action J) (given : Answer) (b : Ledger J) (r : R) → holds b r → answered (asking_if b.asked) given ≡ Some x
-      → Leaves p holds (p.waits r) (p.answered now x (entered (Did x) b) r) (entered (Did x) b) r
-  -- told of its client, it can be told so less often
+      → Leaves p holds (p.waits r) (p.answered now x (entered (Did x) b) r) (entered (Did x) b)
+  -- told of its client as its connection settles, it can be told so less often
   pub falls : (now : ℕ) (s : RunSeen) (b : Ledger J) (r : R) → holds b r → MayCome p now s b r → is_of_client s ≡ true
-      → p.tells_left (performed (p.turn now s (entered_as s b) r) (entered_as s b) r).state.inner < p.tells_left r
+      → p.tells_left (p.turn now s (entered_as s b) r).run < p.tells_left r
   -- it knows nothing of what is the client's, and nothing of what is offered
   pub apart : (b c : Ledger J) (r : R) → AreAlike b c → holds b r → holds c r
-  -- what it asks fits
+  -- its questions to the outside fit
   pub asks : (b : Ledger J) (r : R) (x : Question J) → holds b r → b.asked ≡ Some x → Fits p x
-  -- its moves are its own
-  pub begins_by_own : (now : ℕ) (head : Head) (target : Target) (b : Ledger J) → IsOwn (p.begun now head target b).moves
-  pub begins_job_by_own : (now : ℕ) (premature : Bool) (job : J) (b : Ledger J) → IsOwn (p.begun_job now premature job b).moves
-  pub moves_by_own : (now : ℕ) (s : RunSeen) (b : Ledger J) (r : R) → IsOwn (p.turn now s b r).moves
-  pub answers_by_own : (now : ℕ) (x : Action J) (b : Ledger J) (r : R) → IsOwn (p.answered now x b r).moves
-  -- a job that begins, a deadline that is taken, and the client's end, only wake
+  -- as a job begins, a deadline comes due or the client is hung up, it only wakes
   pub job : (now : ℕ) (premature : Bool) (job : J) (b : Ledger J) → IsQuiet (p.begun_job now premature job b)
   pub due : (now n : ℕ) (b : Ledger J) (r : R) → IsQuiet (p.turn now (seen.Due n) b r)
   pub gone : (now : ℕ) (b : Ledger J) (r : R) → IsQuiet (p.turn now seen.ClientGone b r)
   -- a socket of which a write broke, or that takes bytes again, is hung up, or offered again
-  pub lost : (now k : ℕ) (b : Ledger J) (r : R) → holds b r → MayComeAt k at.Lost b → let c = entered_as (seen.Sock k at.Lost) b in
-      IsServed (place.Sock k) (performed (p.turn now (seen.Sock k at.Lost) c r) c r).state.ledger
-  pub again : (now k : ℕ) (b : Ledger J) (r : R) → holds b r → MayComeAt k at.Ready b → let c = entered_as (seen.Sock k at.Ready) b in
-      IsServed (place.Sock k) (performed (p.turn now (seen.Sock k at.Ready) c r) c r).state.ledger
+  pub lost : (now k : ℕ) (b : Ledger J) (r : R) → holds b r → MayCome p now (seen.Sock k at.Lost) b r → let c = entered_as (seen.Sock k at.Lost) b in
+      IsServed (place.Sock k) (taken (p.turn now (seen.Sock k at.Lost) c r) c).ledger
+  pub again : (now k : ℕ) (b : Ledger J) (r : R) → holds b r → MayCome p now (seen.Sock k at.Ready) b r → let c = entered_as (seen.Sock k at.Ready) b in
+      IsServed (place.Sock k) (taken (p.turn now (seen.Sock k at.Ready) c r) c).ledger

@@ -10,15 +10,13 @@ use Rattle.strand_contract.specs.Actions.{Action, Dict}
 use Rattle.strand_plans.specs.Questions.{Question}
 use Rattle.strand_plans.specs.Questions as question
 use Rattle.strand_plans.specs.Ledgers.{Ledger, has}
-use Rattle.strand_plans.specs.Moves.{Done, Set, Ask}
-use Rattle.strand_plans.specs.Moves as move
 use Rattle.run_contract.specs.declared.stored.Progress.{Progress}
 use Rattle.run_contract.specs.declared.stored.Progress.TheVariants.{Queued, Asked, Replied}
 use Rattle.run_contract.specs.declared.turns.RunSeen.{RunSeen}
 use Rattle.run_contract.specs.declared.turns.RunSeen.TheVariants as seen
-use Rattle.run_contract.specs.declared.turns.Said.{Said}
 use Rattle.run_contract.specs.declared.turns.Said.TheVariants as said
-use Rattle.run_contract.specs.Runs.{Turn, RunPlan}
+use Rattle.run_contract.specs.Deeds.{Deed, Ready, Say, Turn, Nothing, Outside}
+use Rattle.run_contract.specs.Runs.{RunPlan, waits_at_first}
 use Rattle.run_contract.specs.Alike.{own_deadlines}
 use Rattle.run_contract.specs.Conditions.{IsUnused}
 
@@ -28,36 +26,40 @@ pub record Stored : Type 0 where
   pub client : Bool
 
 -- the reply, whole, after which nothing is left
-abbrev pub reply_said : List ℕ → List Said
-reply_said bytes = said.Send bytes ∷ said.Ended true ∷ said.Over ∷ []
+abbrev pub reply_said : List ℕ → List Deed
+reply_said bytes = Say (said.Send bytes) ∷ Say (said.Ended true) ∷ Say said.Over ∷ []
 
 -- the text that was found, or the other one
 abbrev pub given_text : List ℕ → Answer → List ℕ
 given_text otherwise (answer.Dict (given.Found (value.Text text) flags)) = text
 given_text otherwise a = otherwise
 
-abbrev pub silent : {J : Type 0} → Turn J Stored
-silent = record { moves = Done; said = [] }
+abbrev pub silent : {J : Type 0} → Stored → Turn J Stored
+silent r = record { does = []; asks = Nothing; run = r }
+
+-- its thread waits for its run
+abbrev pub queued : {J : Type 0} → Stored → Turn J Stored
+queued r = record { does = Ready 0 ∷ []; asks = Nothing; run = r }
 
 -- the thread asks for what is kept under the key
 abbrev pub stored_turn : {J : Type 0} → List ℕ → ℕ → RunSeen → Ledger J → Stored → Turn J Stored
-stored_turn key now (seen.Run k) b r = record { moves = Set (λ r. record r { progress = Asked }) (Ask (question.Dict 0 (dict.Get key))); said = [] }
-stored_turn key now seen.ClientGone b r = record { moves = Set (λ r. record r { client = false }) Done; said = [] }
-stored_turn key now s b r = silent
+stored_turn key now (seen.Run k) b r = record { does = []; asks = Outside (question.Dict 0 (dict.Get key)); run = record r { progress = Asked } }
+stored_turn key now seen.ClientGone b r = silent (record r { client = false })
+stored_turn key now s b r = silent r
 
 -- and sends that
 abbrev pub stored_answered : {J : Type 0} → List ℕ → ℕ → Action J → Ledger J → Stored → Turn J Stored
 stored_answered otherwise now (Dict zone call a) b r =
-    record { moves = Set (λ r. record r { progress = Replied }) Done; said = reply_said (given_text otherwise (answer.Dict a)) }
-stored_answered otherwise now x b r = silent
+    record { does = reply_said (given_text otherwise (answer.Dict a)); asks = Nothing; run = record r { progress = Replied } }
+stored_answered otherwise now x b r = silent r
 
 abbrev pub stored_plan : {J : Type 0} → (name key otherwise : List ℕ) → RunPlan J Stored
 stored_plan name key otherwise = record {
   unborn = record { progress = Queued; client = true };
-  waits = λ r. record { body = false; taken = false; client = r.client };
+  waits = λ r. waits_at_first r.client;
   tells_left = λ r. if r.client then 1 else 0;
-  begun = λ now head target b. record { moves = move.Ready 0 Done; said = [] };
-  begun_job = λ now premature job b. record { moves = Set (λ r. record r { client = false }) (move.Ready 0 Done); said = [] };
+  begun = λ now head target b. queued (record { progress = Queued; client = true });
+  begun_job = λ now premature job b. queued (record { progress = Queued; client = false });
   turn = stored_turn key;
   answered = stored_answered otherwise;
   zones = 1;

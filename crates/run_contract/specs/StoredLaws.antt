@@ -12,7 +12,6 @@ use Rattle.strand_contract.specs.Actions.{Action, Did, Dict}
 use Rattle.strand_contract.specs.Calls.{answered}
 use Rattle.strand_contract.specs.Alone.{sooner, due}
 use Rattle.strand_plans.specs.Questions.{Question, asking_if}
-use Rattle.strand_plans.specs.Questions as question
 use Rattle.strand_plans.specs.Ledgers.{Ledger, has, entered}
 use Rattle.strand_plans.specs.Turns.{IsDue}
 use Rattle.run_contract.specs.declared.stored.Progress.{Progress}
@@ -21,11 +20,10 @@ use Rattle.run_contract.specs.declared.turns.RunSeen.{RunSeen}
 use Rattle.run_contract.specs.declared.turns.RunSeen.TheVariants as seen
 use Rattle.run_contract.specs.declared.turns.SockSeen.{SockSeen}
 use Rattle.run_contract.specs.declared.turns.SockSeen.TheVariants as at
-use Rattle.run_contract.specs.Runs.{performed, waits_told, is_of_client}
+use Rattle.run_contract.specs.Runs.{waits_told, is_of_client}
 use Rattle.run_contract.specs.Alike.{own_deadlines, AreAlike}
-use Rattle.run_contract.specs.Forms.{IsOwn}
 use Rattle.run_contract.specs.Conditions.{IsBlank, MayComeAt, MayCome, Leaves, Fits, entered_as, IsRun}
-use Rattle.run_contract.specs.Stored.{Stored, stored_turn, stored_answered, stored_plan, StoredHolds, threads_at, asked_at}
+use Rattle.run_contract.specs.Stored.{Stored, stored_plan, StoredHolds, threads_at, asked_at}
 
 never-over : {C : Type 0} → false ≡ true → C
 never-over e = absurd (cc)
@@ -84,9 +82,10 @@ pub runs-once : {J : Type 0} (name key otherwise : List ℕ) (now k : ℕ) (b : 
     → MayCome (stored_plan name key otherwise) now (seen.Run k) b r → r.progress ≡ Queued
 runs-once name key otherwise now k b r h x = queued-runs k x.0.0 b.threads r.progress (sym x.0.1) h.threads
 
--- otherwise it is only told that its client is gone
+-- else all that it is told is that its client ends or is gone
 abbrev pub IsElse : RunSeen → Type 0
 IsElse (seen.Run k) = ⊥
+IsElse seen.ClientEnded = ⊥
 IsElse seen.ClientGone = ⊥
 IsElse s = Unit {0}
 
@@ -95,10 +94,12 @@ pub none-else : {J C : Type 0} (name key otherwise : List ℕ) (now : ℕ) (s : 
 none-else name key otherwise now (seen.Run k) b r h x e = absurd e
 none-else name key otherwise now seen.ClientGone b r h x e = absurd e
 none-else name key otherwise now (seen.Due n) b r h x e = none-due key b r now n h x.0 x.1
-none-else name key otherwise now (seen.Sock k s) b r h x e = none-comes key b r k s h x
-none-else name key otherwise now (seen.Body content waited) b r h x e = never-over x.1
-none-else name key otherwise now (seen.BodyRefused code) b r h x e = never-over x.1
-none-else name key otherwise now seen.AllTaken b r h x e = never-over x.1
+none-else name key otherwise now (seen.Sock k s) b r h x e = none-comes key b r k s h x.0
+none-else name key otherwise now (seen.Body content waited) b r h x e = never-over x.1.0
+none-else name key otherwise now (seen.BodyRefused code) b r h x e = never-over x.1.0
+none-else name key otherwise now seen.AllTaken b r h x e = never-over x.1.0
+none-else name key otherwise now seen.NotYet b r h x e = never-over x.1
+none-else name key otherwise now seen.ClientEnded b r h x e = absurd e
 
 -- the answer is one of the dictionary, after it asked
 pub record IsAnswered {J : Type 0} (key : List ℕ) (r : Stored) (x : Action J) (a : Answer) : Type 0 where
@@ -132,7 +133,7 @@ is-answered key b r x a h e = answers-of key r.client x a r.progress (sym (ap (�
 stays : {J : Type 0} (name key otherwise : List ℕ) (now : ℕ) (s : RunSeen) (b : Ledger J) (r : Stored) → StoredHolds key b r
     → MayCome (stored_plan name key otherwise) now s b r
     → Leaves (stored_plan name key otherwise) (StoredHolds key) (waits_told s ((stored_plan {J = J} name key otherwise).waits r))
-    ((stored_plan name key otherwise).turn now s (entered_as s b) r) (entered_as s b) r
+    ((stored_plan name key otherwise).turn now s (entered_as s b) r) (entered_as s b)
 stays name key otherwise now (seen.Run k) b r h x =
     let queued = runs-once name key otherwise now k b r h x in
     record {
@@ -152,6 +153,13 @@ stays name key otherwise now seen.ClientGone b r h x =
       waits = refl;
       over = λ e. never-over e;
     }
+stays name key otherwise now seen.ClientEnded b r h x =
+    record {
+      known = record { threads = h.threads; asked = h.asked; no_deadline = h.no_deadline; no_socket = h.no_socket; unused = h.unused };
+      waits = refl;
+      over = λ e. never-over e;
+    }
+stays name key otherwise now seen.NotYet b r h x = none-else name key otherwise now seen.NotYet b r h x tt
 stays name key otherwise now (seen.Due n) b r h x = none-else name key otherwise now (seen.Due n) b r h x tt
 stays name key otherwise now (seen.Sock k s) b r h x = none-else name key otherwise now (seen.Sock k s) b r h x tt
 stays name key otherwise now (seen.Body content waited) b r h x = none-else name key otherwise now (seen.Body content waited) b r h x tt
@@ -161,16 +169,16 @@ stays name key otherwise now seen.AllTaken b r h x = none-else name key otherwis
 answers : {J : Type 0} (name key otherwise : List ℕ) (now : ℕ) (x : Action J) (a : Answer) (b : Ledger J) (r : Stored) → StoredHolds key b r
     → answered (asking_if b.asked) a ≡ Some x
     → Leaves (stored_plan name key otherwise) (StoredHolds key) ((stored_plan {J = J} name key otherwise).waits r)
-    ((stored_plan name key otherwise).answered now x (entered (Did x) b) r) (entered (Did x) b) r
+    ((stored_plan name key otherwise).answered now x (entered (Did x) b) r) (entered (Did x) b)
 answers {J} name key otherwise now x a b r h e =
     let w = is-answered key b r x a h e in
     let idle = h.threads ∙ ap threads_at w.asked in
     let leaves : Action J → Type 0 = λ x. Leaves (stored_plan name key otherwise) (StoredHolds key) ((stored_plan {J = J} name key otherwise).waits r)
-    ((stored_plan name key otherwise).answered now x (entered (Did x) b) r) (entered (Did x) b) r in
+    ((stored_plan name key otherwise).answered now x (entered (Did x) b) r) (entered (Did x) b) in
     subst leaves (sym w.action) (record {
       known = record { threads = idle; asked = refl; no_deadline = h.no_deadline; no_socket = h.no_socket; unused = h.unused };
       waits = refl;
-      over = λ e. record { no_thread = idle; no_deadline = h.no_deadline; no_socket = h.no_socket; unused = h.unused; none_asked = refl };
+      over = λ e. (record { no_thread = idle; no_deadline = h.no_deadline; no_socket = h.no_socket; unused = h.unused; none_asked = refl }, refl);
     })
 
 apart : {J : Type 0} (key : List ℕ) (b c : Ledger J) (r : Stored) → AreAlike b c → StoredHolds key b r → StoredHolds key c r
@@ -192,26 +200,19 @@ fits name key otherwise Asked x e = subst (Fits (stored_plan name key otherwise)
 fits name key otherwise Queued x e = none-some x e
 fits name key otherwise Replied x e = none-some x e
 
-own : {J : Type 0} (key : List ℕ) (now : ℕ) (s : RunSeen) (b : Ledger J) (r : Stored) → IsOwn (stored_turn key now s b r).moves
-own key now (seen.Run k) b r = tt
-own key now seen.ClientGone b r = tt
-own key now s b r = tt
-
 falls : {J : Type 0} (name key otherwise : List ℕ) (now : ℕ) (s : RunSeen) (b : Ledger J) (r : Stored) → StoredHolds key b r
     → MayCome (stored_plan name key otherwise) now s b r → is_of_client s ≡ true
     → let p = stored_plan {J = J} name key otherwise in let c = entered_as s b in
-    p.tells_left (performed (p.turn now s c r) c r).state.inner < p.tells_left r
+    p.tells_left (p.turn now s c r).run < p.tells_left r
 falls name key otherwise now seen.ClientGone b r h x e = one-falls r.client x.1
 falls name key otherwise now (seen.Run k) b r h x e = never-over e
 falls name key otherwise now (seen.Due n) b r h x e = never-over e
 falls name key otherwise now (seen.Sock k s) b r h x e = never-over e
-falls name key otherwise now (seen.Body content waited) b r h x e = never-over x.1
-falls name key otherwise now (seen.BodyRefused code) b r h x e = never-over x.1
-falls name key otherwise now seen.AllTaken b r h x e = never-over x.1
-
-answers-own : {J : Type 0} (otherwise : List ℕ) (now : ℕ) (x : Action J) (b : Ledger J) (r : Stored) → IsOwn (stored_answered otherwise now x b r).moves
-answers-own otherwise now (Dict zone call given) b r = tt
-answers-own otherwise now x b r = tt
+falls name key otherwise now (seen.Body content waited) b r h x e = never-over x.1.0
+falls name key otherwise now (seen.BodyRefused code) b r h x e = never-over x.1.0
+falls name key otherwise now seen.AllTaken b r h x e = never-over x.1.0
+falls name key otherwise now seen.NotYet b r h x e = never-over x.1
+falls name key otherwise now seen.ClientEnded b r h x e = never-over e
 
 pub stored-is-run : {J : Type 0} (name key otherwise : List ℕ) → IsRun {J = J} (stored_plan name key otherwise) (StoredHolds key)
 stored-is-run name key otherwise = record {
@@ -222,13 +223,9 @@ stored-is-run name key otherwise = record {
   falls = λ now s b r h x e. falls name key otherwise now s b r h x e;
   apart = λ b c r same h. apart key b c r same h;
   asks = λ b r x h e. fits name key otherwise r.progress x (sym h.asked ∙ e);
-  begins_by_own = λ now head target b. tt;
-  begins_job_by_own = λ now premature job b. tt;
-  moves_by_own = λ now s b r. own key now s b r;
-  answers_by_own = λ now x b r. answers-own otherwise now x b r;
   job = λ now premature job b. (tt, refl);
   due = λ now n b r. (tt, refl);
   gone = λ now b r. (tt, refl);
-  lost = λ now k b r h x. none-comes key b r k at.Lost h x;
-  again = λ now k b r h x. none-comes key b r k at.Ready h x;
+  lost = λ now k b r h x. none-comes key b r k at.Lost h x.0;
+  again = λ now k b r h x. none-comes key b r k at.Ready h x.0;
 }

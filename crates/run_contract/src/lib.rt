@@ -8,4 +8,4 @@ mod turns;
 
 pub use contract::RunContract;
 pub use stored::{NoJob, StoredReply, StoredSite};
-pub use turns::{RunSeen, RunTurn, Said, SockSeen};
+pub use turns::{Asking, LocationTimes, RunAct, RunSeen, RunTurn, Said, SockSeen};

@@ -1,11 +1,13 @@
 //! Runs that answer each request with what a dictionary keeps under a key: they meet the contract, so each of its calls can be made.
 
-ghost use Rattle.std.specs.Prelude.{◌≡◌, [], ◌∷◌, IfOk};
+ghost use Rattle.std.specs.Prelude.{◌≡◌, true, [], ◌∷◌, None, IfOk};
 ghost use Rattle.strand_contract.specs.declared.turns.Act.TheVariants as act;
 ghost use Rattle.resty_base.specs.declared.dictionary.DictCall.TheVariants as dict;
-ghost use Rattle.run_contract.specs.Stored.{given_text, reply_said};
+ghost use Rattle.run_contract.specs.declared.turns.Said.TheVariants as said;
+ghost use Rattle.run_contract.specs.declared.turns.RunAct.TheVariants as made;
+ghost use Rattle.run_contract.specs.Stored.{given_text};
 
-use crate::{RunContract, RunSeen, RunTurn, Said};
+use crate::{RunAct, RunContract, RunSeen, RunTurn, Said};
 use http_in::Head;
 use resty_base::{Boxed, Bytes, DictAnswer, DictCall, DictValue, Ms};
 use std::alloc::{AllocError, Global};
@@ -44,33 +46,33 @@ pub struct StoredReply {
 
 /// A turn that does nothing and says nothing.
 fn silent(alloc: Global) -> RunTurn<NoJob>
-    ensures acts { result.acts.items ≡ [] }
-    ensures said { result.said.items ≡ [] }
+    ensures does { result.does.items ≡ [] }
+    ensures asks { result.asks ≡ None }
 {
     RunTurn {
-        acts: VecDeque::new(alloc),
-        said: Vec::new(alloc),
+        does: VecDeque::new(alloc),
+        asks: None,
     }
 }
 
 /// A turn that puts the thread into the queue.
 fn queueing(alloc: Global) -> Result<RunTurn<NoJob>, AllocError>
-    ensures acts { IfOk result (λ turn. turn.acts.items ≡ act.Ready 0 ∷ []) }
-    ensures said { IfOk result (λ turn. turn.said.items ≡ []) }
+    ensures does { IfOk result (λ turn. turn.does.items ≡ made.Act (act.Ready 0) ∷ []) }
+    ensures asks { IfOk result (λ turn. turn.asks ≡ None) }
 {
     let mut turn = silent(alloc);
-    turn.acts.push_back(Act::Ready(0))?;
+    turn.does.push_back(RunAct::Act(Act::Ready(0)))?;
     Ok(turn)
 }
 
 /// A turn that asks for what is kept under the key.
 fn asking(alloc: Global, site: &StoredSite) -> Result<RunTurn<NoJob>, AllocError>
-    ensures acts { IfOk result (λ turn. turn.acts.items ≡ act.Dict 0 (dict.Get site.now.key) ∷ []) }
-    ensures said { IfOk result (λ turn. turn.said.items ≡ []) }
+    ensures does { IfOk result (λ turn. turn.does.items ≡ made.Act (act.Dict 0 (dict.Get site.now.key)) ∷ []) }
+    ensures asks { IfOk result (λ turn. turn.asks ≡ None) }
 {
     let mut turn = silent(alloc);
     let call = Boxed::new(alloc, DictCall::Get(site.key.clone()?))?;
-    turn.acts.push_back(Act::Dict(0, call))?;
+    turn.does.push_back(RunAct::Act(Act::Dict(0, call)))?;
     Ok(turn)
 }
 
@@ -86,13 +88,13 @@ fn text_of(site: &StoredSite, answer: Answer) -> Result<Bytes, AllocError>
 
 /// A turn that sends this as the whole reply.
 fn replying(alloc: Global, text: Bytes) -> Result<RunTurn<NoJob>, AllocError>
-    ensures acts { IfOk result (λ turn. turn.acts.items ≡ []) }
-    ensures said { IfOk result (λ turn. turn.said.items ≡ reply_said text) }
+    ensures does { IfOk result (λ turn. turn.does.items ≡ made.Say (said.Send text) ∷ made.Say (said.Ended true) ∷ made.Say said.Over ∷ []) }
+    ensures asks { IfOk result (λ turn. turn.asks ≡ None) }
 {
     let mut turn = silent(alloc);
-    turn.said.push(Said::Send(text))?;
-    turn.said.push(Said::Ended(true))?;
-    turn.said.push(Said::Over)?;
+    turn.does.push_back(RunAct::Say(Said::Send(text)))?;
+    turn.does.push_back(RunAct::Say(Said::Ended(true)))?;
+    turn.does.push_back(RunAct::Say(Said::Over))?;
     Ok(turn)
 }
 
@@ -107,11 +109,11 @@ impl RunContract for StoredReply {
 
     ghost Inner = { Stored };
 
-    ghost plan = { λ site. stored_plan site.dictionary site.key site.otherwise };
-
-    ghost holds = { λ site b r. StoredHolds site.key b r };
-
-    ghost stands = { λ site run b r. (run.progress ≡ r.progress) × (run.has_client ≡ r.client) };
+    ghost meaning = { λ site. record {
+      plan = stored_plan site.dictionary site.key site.otherwise;
+      holds = λ b r. StoredHolds site.key b r;
+      stands = λ run b r. (run.progress ≡ r.progress) × (run.has_client ≡ r.client);
+    } };
 
     ghost left = { λ run. left_at run.progress + (if run.has_client then 1 else 0) };
 
@@ -142,9 +144,11 @@ impl RunContract for StoredReply {
         _site: &StoredSite,
         _now: Ms,
         _sockets: u32,
-        _head: Head,
-        _target: Target,
+        head: Head,
+        target: Target,
     ) -> Result<(Self, RunTurn<NoJob>), AllocError> {
+        drop(head);
+        drop(target);
         let run = StoredReply {
             progress: Progress::Queued,
             has_client: true,
@@ -186,6 +190,8 @@ impl RunContract for StoredReply {
             | RunSeen::Body(_, _)
             | RunSeen::BodyRefused(_)
             | RunSeen::AllTaken
+            | RunSeen::NotYet
+            | RunSeen::ClientEnded
             | RunSeen::Sock(_, _) => Ok(silent(alloc)),
         }
     }

@@ -1,7 +1,8 @@
 //! What a run is told by its connection, and what a turn of it comes to.
 
-use resty_base::Bytes;
-use strand_contract::Acts;
+use resty_base::{Bytes, Ms};
+use std::collections::VecDeque;
+use strand_contract::Act;
 
 /// What comes at a socket of a run.
 #[derive(Drop)]
@@ -37,10 +38,23 @@ pub enum RunSeen {
     BodyRefused(u16),
     /// All that was sent to the client was taken.
     AllTaken,
+    /// What it asked its connection for isn't there yet, and can still come: it is told once that is there. A client that holds its body back until it
+    /// gets a 100 reply got one, where the body was asked for and nothing of the reply was sent.
+    NotYet,
+    /// The client sends no more. Bytes can still be sent to it.
+    ClientEnded,
     /// The client was hung up: nothing more reaches it.
     ClientGone,
     /// Something came at the socket of this number. A connection's sockets are numbered from 0, through all of its runs.
     Sock(u32, SockSeen),
+}
+
+/// How long a location has its connection wait: for the next request, for more of a body, until the client takes bytes.
+#[derive(Clone, Copy)]
+pub struct LocationTimes {
+    pub keepalive: Ms,
+    pub body: Ms,
+    pub send: Ms,
 }
 
 /// What a run says to its connection.
@@ -48,22 +62,36 @@ pub enum RunSeen {
 pub enum Said {
     /// These bytes of the reply come next.
     Send(Bytes),
-    /// It waits for the body of its request, whose content may have so many bytes.
-    WantsBody(u64),
     /// It doesn't wait for the body any more.
     WantsNoBody,
-    /// It waits until all that was sent is taken.
-    WantsAllTaken,
+    /// Another location answers the request: timers that begin after this go by its times.
+    Times(LocationTimes),
     /// The reply is whole, and whether the connection is to be closed after it.
     Ended(bool),
     /// Nothing of the run is left to be done.
     Over,
 }
 
-/// What a turn of a run comes to: its acts, and what it says, each in order. What it says takes effect after its acts, but before
-/// the last act where that awaits an answer.
+/// What a run asks its connection, which answers before anything else happens.
+#[derive(Clone, Copy)]
+pub enum Asking {
+    /// The body of its request, with at most so many bytes of content.
+    Body(u64),
+    /// Whether the client took all that was sent to it.
+    AllTaken,
+}
+
+/// One thing that a turn of a run does: an act, or a word to its connection.
+#[derive(Drop)]
+pub enum RunAct<J> {
+    Act(Act<J>),
+    Say(Said),
+}
+
+/// A turn of a run: what it does, in order, and what it asks its connection then. A question to the outside is the last of its acts; where there is one,
+/// the connection is asked nothing.
 #[derive(Drop)]
 pub struct RunTurn<J> {
-    pub acts: Acts<J>,
-    pub said: Vec<Said>,
+    pub does: VecDeque<RunAct<J>>,
+    pub asks: Option<Asking>,
 }

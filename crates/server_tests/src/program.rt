@@ -91,6 +91,8 @@ serve --conf t.conf --schedule t.sched @ <files>stop^ => 2 ! <usage>
 serve --conf t.conf --events @ <files>stop^ => 2 ! <usage>
 serve --conf t.conf --events 0 @ <files>stop^ => 2 ! <usage>
 serve --conf t.conf --events 01 @ <files>stop^ => 2 ! <usage>
+serve --conf t.conf --events +1 @ <files>stop^ => 2 ! <usage>
+<replay> --events 007 @ <files>stop^ => 2 ! <usage>
 serve --events 1 --conf t.conf @ <files>stop^ => 2 ! <usage>
 serve --conf t.conf --events 1000000000000000000 @ <files>stop^ => 2 ! <usage>"#;
 

@@ -8,7 +8,10 @@ use Rattle.lua_lexer.specs.declared.tokens.TokenKind.TheVariants.{Word, Sign, Si
 use Rattle.lua_parser_base.proofs.Arguments.{call_cannot_open, call_refused, call_too_high, method_cannot_open, method_refused, args_no_part, args_open, args_refused, no_args, table_arg_refused}
 use Rattle.lua_parser.proofs.ArmRefusals.{arm_block_refused, test_refused, then_refused, first_arm_refused, next_arm_refused, arms_refused, else_end_refused, else_refused, end_refused}
 use Rattle.lua_parser_base.proofs.Assignments.{function_from, function_read, method_read, local_from, local_function_read, local_read, call_read, first_assigned, target_read, vars_one, assign_after}
-use Rattle.lua_parser.proofs.Beside.{advances_stays, binary_of, done_by, done_node, loop_named, memory_by, never_there, node_by, on_done, read_by, refused_by, right_read}
+use Rattle.lua_parser.proofs.Beside.{advances_stays, before_refused, binary_of, done_by, done_node, loop_named, memory_by, never_there, node_by, on_done, pushed_refused, read_by, refused_by, right_read}
+use Rattle.lua_parser.proofs.Skipping.{skipped, skipped_on, stayed, not_there}
+use Rattle.lua_parser_base.proofs.Names.{no_comma_ahead}
+use Rattle.std.specs.Prelude.{not}
 use Rattle.lua_parser.proofs.BlockKinds.{block_end, is_statement, nothing_returned, return_next, semicolon_next, values_next, do_kind, for_kind, function_kind, if_kind, local_kind, prefix_begins, repeat_kind, while_kind}
 use Rattle.lua_parser_base.proofs.BlockRefusals.{last_refused, stat_refused, returned_refused}
 use Rattle.lua_parser_base.proofs.Blocks.{arm_read, arms_more, arms_one, block_last, block_open, do_read, if_else_read, if_read, repeat_read, return_none_read, return_read, scoped_read, stats_more, stats_none, value_read, values_read, while_read}
@@ -38,16 +41,16 @@ use Rattle.lua_parser_base.proofs.Scoping.{left_since, on_node, on_ok, slot_stat
 use Rattle.lua_parser_base.proofs.Tables.{no_fields_read, more_fields_read, separated_read, ending_read, keyed_read, named_read, plain_read}
 use Rattle.lua_parser.proofs.Targets.{assignment_refused, first_target_refused, statement_is_none, assigned_refused, assignment_without_assign, more_vars_on, next_target_refused, no_more_vars, target_is_none, target_refused}
 use Rattle.lua_parser.proofs.ValueRefusals.{value_refused, value_too_deep, values_refused, values_too_deep}
-use Rattle.lua_parser.proofs.+descent.Goals.{statements::last-then-eq-via-then-eq, statements::last-then-eq-via-else-eq+then-at_sign}
+use Rattle.lua_parser.proofs.+descent.Goals.{statements::last-then-eq-via-then-eq, statements::last-then-eq-via-else-eq+then-at_sign, suffixes::prefix-in-Member, suffixes::prefix-in-Item, suffixes::prefix-in-Method, suffixes::prefix-in-Arguments}
 use Rattle.lua_parser_base.specs.Kinds.{IsStatement, IsUnary, IsSuffix, begins_of}
 use Rattle.lua_parser_base.specs.Next.{IsKind, IsMemory, IsTooDeep, Misses, OnAt, ahead, IsNext, OnLocals, MissesMember, IsName, HasNoPart, IsTooHigh, Begin}
-use Rattle.lua_parser_base.specs.Reads.{ReadsExp}
+use Rattle.lua_parser_base.specs.Reads.{ReadsExp, ReadsPrefix}
 use Rattle.lua_parser_base.specs.Refusals.{RefusesFrom, RefusesList, RefusesBody, RefusesPrefix, RefusesExp, RefusesSuffix, RefusesArgs, RefusesField, RefusesTable}
 use Rattle.lua_parser_base.specs.Standing.{FirstFault}
-use Rattle.lua_parser_base.specs.StatementRefusals.{RefusesArm, RefusesArms, RefusesLast, RefusesScoped, RefusesStat, RefusesValue, RefusesValues, RefusesNames, RefusesFor, RefusesLoop, RefusesFuncName, RefusesInitial, RefusesTarget, RefusesMethod}
-use Rattle.lua_parser_base.specs.States.{state, scope_of, State}
+use Rattle.lua_parser_base.specs.StatementRefusals.{RefusesArm, RefusesBlock, RefusesArms, RefusesScoped, RefusesStat, RefusesValue, RefusesValues, RefusesNames, RefusesFor, RefusesLoop, RefusesFuncName, RefusesInitial, RefusesTarget, RefusesMethod}
+use Rattle.lua_parser_base.specs.States.{state, scope_of, Advances, State}
 use Rattle.lua_parser_base.specs.declared.nodes.Form.TheVariants.{Variable, Call, Paren}
-use Rattle.std.proofs.Common.{◌≡◌, ◌≤◌, refl, sym, subst, rules, arith, [], length, ◌∷◌, IfErr, ◌∙◌, ◌<◌, ◌+◌, true, false, lit≤, IsTrue, Vec, inl, inr, ap}
+use Rattle.std.proofs.Common.{◌≡◌, ◌≤◌, refl, sym, subst, rules, arith, [], length, ◌∷◌, IfErr, IfOk, OnOk, ◌∙◌, ◌<◌, ◌+◌, true, false, lit≤, IsTrue, Vec, inl, inr, ap}
 use Rattle.std.proofs.lemmas.Result.{err_from_is_err_and}
 use Rattle.lua_parser_base.specs.declared.beginnings.Begins.TheVariants as begins
 use Rattle.lua_parser.proofs.+descent.Goals as goal
@@ -310,29 +313,25 @@ expressions::prefix_operand-returns-in_err-prefix-clause-order t c =
 pub suffixes::prefix-loop-suffix-init : goal.suffixes::prefix-loop-suffix-init
 suffixes::prefix-loop-suffix-init t c = record { forward = c.in_ok-prefix.ensures.forward; reads = c.in_ok-prefix.ensures.reads }
 
-pub suffixes::prefix-loop-suffix-preserved-in_ok-prefix-in-Member : goal.suffixes::prefix-loop-suffix-preserved-in_ok-prefix-in-Member
-suffixes::prefix-loop-suffix-preserved-in_ok-prefix-in-Member t c = record {
-  forward = advances_on _ _ _ _ c.loop-suffix.invariant.forward c.in_ok-prefix-in-Member.ensures.forward;
-  reads = c.in_ok-prefix-in-Member.ensures.reads _ c.loop-suffix.invariant.reads;
-}
-
-pub suffixes::prefix-loop-suffix-preserved-in_ok-prefix-in-Item : goal.suffixes::prefix-loop-suffix-preserved-in_ok-prefix-in-Item
-suffixes::prefix-loop-suffix-preserved-in_ok-prefix-in-Item t c = record {
-  forward = advances_on _ _ _ _ c.loop-suffix.invariant.forward c.in_ok-prefix-in-Item.ensures.forward;
-  reads = c.in_ok-prefix-in-Item.ensures.reads _ c.loop-suffix.invariant.reads;
-}
-
-pub suffixes::prefix-loop-suffix-preserved-in_ok-prefix-in-Method : goal.suffixes::prefix-loop-suffix-preserved-in_ok-prefix-in-Method
-suffixes::prefix-loop-suffix-preserved-in_ok-prefix-in-Method t c = record {
-  forward = advances_on _ _ _ _ c.loop-suffix.invariant.forward c.in_ok-prefix-in-Method.ensures.forward;
-  reads = c.in_ok-prefix-in-Method.ensures.reads _ c.loop-suffix.invariant.reads;
-}
-
 pub suffixes::prefix-loop-suffix-preserved : goal.suffixes::prefix-loop-suffix-preserved
-suffixes::prefix-loop-suffix-preserved t c = record {
-  forward = advances_on _ _ _ _ c.loop-suffix.invariant.forward c.in_ok-prefix-in-Arguments.ensures.forward;
-  reads = c.in_ok-prefix-in-Arguments.ensures.reads _ c.loop-suffix.invariant.reads;
-}
+suffixes::prefix-loop-suffix-preserved t c =
+    let before = c.loop-suffix.invariant in
+    let read : IfOk c.match-suffix.extended (λ longer. ReadsPrefix c.args.at (state c.args.tokens.now c.args.parser.now) longer (state c.args.tokens.now c.match-suffix.parser)) = elim c.match-suffix.branch [
+      | suffixes::prefix-in-Member w ↦ rw (w.extended-is, w.parser-is) (on_ok w.member-extended.result w.member-extended.ensures.reads (λ longer extends. extends _ before.reads))
+      | suffixes::prefix-in-Item w ↦ rw (w.extended-is, w.parser-is) (on_ok w.item-extended.result w.item-extended.ensures.reads (λ longer extends. extends _ before.reads))
+      | suffixes::prefix-in-Method w ↦ rw (w.extended-is, w.parser-is) (on_ok w.method-extended.result w.method-extended.ensures.reads (λ longer extends. extends _ before.reads))
+      | suffixes::prefix-in-Arguments w ↦ rw (w.extended-is, w.parser-is) (on_ok w.call-extended.result w.call-extended.ensures.reads (λ longer extends. extends _ before.reads))
+    ] in
+    let forward : OnOk c.match-suffix.extended (Advances c.args.tokens.now c.loop-suffix.parser c.match-suffix.parser) = elim c.match-suffix.branch [
+      | suffixes::prefix-in-Member w ↦ rw (w.extended-is, w.parser-is) w.member-extended.ensures.forward
+      | suffixes::prefix-in-Item w ↦ rw (w.extended-is, w.parser-is) w.item-extended.ensures.forward
+      | suffixes::prefix-in-Method w ↦ rw (w.extended-is, w.parser-is) w.method-extended.ensures.forward
+      | suffixes::prefix-in-Arguments w ↦ rw (w.extended-is, w.parser-is) w.call-extended.ensures.forward
+    ] in
+    record {
+      forward = advances_on _ _ _ _ before.forward (done_by _ _ c.in_ok-prefix-2.was forward);
+      reads = read_by _ _ _ c.in_ok-prefix-2.was read;
+    }
 
 pub suffixes::prefix-returns-clause-reads : goal.suffixes::prefix-returns-clause-reads
 suffixes::prefix-returns-clause-reads t c = c.loop-suffix.invariant.reads
@@ -340,55 +339,41 @@ suffixes::prefix-returns-clause-reads t c = c.loop-suffix.invariant.reads
 pub suffixes::prefix-returns-clause-stops : goal.suffixes::prefix-returns-clause-stops
 suffixes::prefix-returns-clause-stops t c = none_found _ c.suffix_ahead.result c.suffix_ahead.ensures c.in_default.not-Some
 
-pub suffixes::prefix-returns-in_err-prefix-in-Member-clause-refuses : goal.suffixes::prefix-returns-in_err-prefix-in-Member-clause-refuses
-suffixes::prefix-returns-in_err-prefix-in-Member-clause-refuses t c =
-    let next = subst (λ suffix. Begin (IsSuffix suffix) (state c.args.tokens.now c.loop-suffix.parser).left) c.in-Member.is c.in-Some.ensures in
-    handed_on (RefusesPrefix c.args.at (state c.args.tokens.now c.args.parser.now) (state c.args.tokens.now c.member.new.self)) c.from_residual-in_err-prefix-in-Member.result _
-    c.from_residual-in_err-prefix-in-Member.ensures.1 (suffix_refused c.args.at _ _ _ c.loop-suffix.prefix _ c.loop-suffix.invariant.reads (c.in_err-prefix-in-Member.ensures.refuses next))
-
-pub suffixes::prefix-returns-in_err-prefix-in-Item-clause-refuses : goal.suffixes::prefix-returns-in_err-prefix-in-Item-clause-refuses
-suffixes::prefix-returns-in_err-prefix-in-Item-clause-refuses t c =
-    let next = subst (λ suffix. Begin (IsSuffix suffix) (state c.args.tokens.now c.loop-suffix.parser).left) c.in-Item.is c.in-Some.ensures in
-    handed_on (RefusesPrefix c.args.at (state c.args.tokens.now c.args.parser.now) (state c.args.tokens.now c.item.new.parser)) c.from_residual-in_err-prefix-in-Item.result _
-    c.from_residual-in_err-prefix-in-Item.ensures.1 (suffix_refused c.args.at _ _ _ c.loop-suffix.prefix _ c.loop-suffix.invariant.reads (c.in_err-prefix-in-Item.ensures.refuses next))
-
-pub suffixes::prefix-returns-in_err-prefix-in-Method-clause-refuses : goal.suffixes::prefix-returns-in_err-prefix-in-Method-clause-refuses
-suffixes::prefix-returns-in_err-prefix-in-Method-clause-refuses t c =
-    let next = subst (λ suffix. Begin (IsSuffix suffix) (state c.args.tokens.now c.loop-suffix.parser).left) c.in-Method.is c.in-Some.ensures in
-    handed_on (RefusesPrefix c.args.at (state c.args.tokens.now c.args.parser.now) (state c.args.tokens.now c.method.new.parser)) c.from_residual-in_err-prefix-in-Method.result _
-    c.from_residual-in_err-prefix-in-Method.ensures.1 (suffix_refused c.args.at _ _ _ c.loop-suffix.prefix _ c.loop-suffix.invariant.reads (c.in_err-prefix-in-Method.ensures.refuses next))
-
-pub suffixes::prefix-returns-in_err-prefix-in-Arguments-clause-refuses : goal.suffixes::prefix-returns-in_err-prefix-in-Arguments-clause-refuses
-suffixes::prefix-returns-in_err-prefix-in-Arguments-clause-refuses t c =
-    let next = subst (λ suffix. Begin (IsSuffix suffix) (state c.args.tokens.now c.loop-suffix.parser).left) c.in-Arguments.is c.in-Some.ensures in
-    handed_on (RefusesPrefix c.args.at (state c.args.tokens.now c.args.parser.now) (state c.args.tokens.now c.call.new.parser)) c.from_residual-in_err-prefix-in-Arguments.result _
-    c.from_residual-in_err-prefix-in-Arguments.ensures.1 (suffix_refused c.args.at _ _ _ c.loop-suffix.prefix _ c.loop-suffix.invariant.reads (c.in_err-prefix-in-Arguments.ensures.refuses next))
+pub suffixes::prefix-returns-in_err-prefix-2-clause-refuses : goal.suffixes::prefix-returns-in_err-prefix-2-clause-refuses
+suffixes::prefix-returns-in_err-prefix-2-clause-refuses t c =
+    let before = c.loop-suffix.invariant in
+    let refuses : IfErr c.match-suffix.extended (RefusesPrefix c.args.at (state c.args.tokens.now c.args.parser.now) (state c.args.tokens.now c.match-suffix.parser)) = elim c.match-suffix.branch [
+      | suffixes::prefix-in-Member w ↦ rw (w.extended-is, w.parser-is) (on_err w.member-extended.result (w.member-extended.ensures.refuses
+          (subst (λ suffix. Begin (IsSuffix suffix) (state c.args.tokens.now c.loop-suffix.parser).left) w.in-Member.is c.in-Some.ensures))
+          (λ fault refuses. suffix_refused c.args.at _ _ _ c.loop-suffix.prefix fault before.reads refuses))
+      | suffixes::prefix-in-Item w ↦ rw (w.extended-is, w.parser-is) (on_err w.item-extended.result (w.item-extended.ensures.refuses
+          (subst (λ suffix. Begin (IsSuffix suffix) (state c.args.tokens.now c.loop-suffix.parser).left) w.in-Item.is c.in-Some.ensures))
+          (λ fault refuses. suffix_refused c.args.at _ _ _ c.loop-suffix.prefix fault before.reads refuses))
+      | suffixes::prefix-in-Method w ↦ rw (w.extended-is, w.parser-is) (on_err w.method-extended.result (w.method-extended.ensures.refuses
+          (subst (λ suffix. Begin (IsSuffix suffix) (state c.args.tokens.now c.loop-suffix.parser).left) w.in-Method.is c.in-Some.ensures))
+          (λ fault refuses. suffix_refused c.args.at _ _ _ c.loop-suffix.prefix fault before.reads refuses))
+      | suffixes::prefix-in-Arguments w ↦ rw (w.extended-is, w.parser-is) (on_err w.call-extended.result (w.call-extended.ensures.refuses
+          (subst (λ suffix. Begin (IsSuffix suffix) (state c.args.tokens.now c.loop-suffix.parser).left) w.in-Arguments.is c.in-Some.ensures))
+          (λ fault refuses. suffix_refused c.args.at _ _ _ c.loop-suffix.prefix fault before.reads refuses))
+    ] in
+    handed_on (RefusesPrefix c.args.at (state c.args.tokens.now c.args.parser.now) (state c.args.tokens.now c.match-suffix.parser)) c.from_residual-in_err-prefix-2.result _ c.from_residual-in_err-prefix-2.ensures.1 (refused_by _ _ _ c.in_err-prefix-2.was refuses)
 
 pub suffixes::prefix-returns-in_err-prefix-clause-order : goal.suffixes::prefix-returns-in_err-prefix-clause-order
 suffixes::prefix-returns-in_err-prefix-clause-order t c =
     handed_on _ c.from_residual.result _ c.from_residual.ensures.1
     (λ start stands. c.in_err-prefix.ensures.order start (stands))
 
-pub suffixes::prefix-returns-in_err-prefix-in-Member-clause-order : goal.suffixes::prefix-returns-in_err-prefix-in-Member-clause-order
-suffixes::prefix-returns-in_err-prefix-in-Member-clause-order t c =
-    handed_on _ c.from_residual-in_err-prefix-in-Member.result _ c.from_residual-in_err-prefix-in-Member.ensures.1
-    (λ start stands. c.in_err-prefix-in-Member.ensures.order _ c.loop-suffix.invariant.reads start (stands))
-
-pub suffixes::prefix-returns-in_err-prefix-in-Item-clause-order : goal.suffixes::prefix-returns-in_err-prefix-in-Item-clause-order
-suffixes::prefix-returns-in_err-prefix-in-Item-clause-order t c =
-    handed_on _ c.from_residual-in_err-prefix-in-Item.result _ c.from_residual-in_err-prefix-in-Item.ensures.1
-    (λ start stands. c.in_err-prefix-in-Item.ensures.order _ c.loop-suffix.invariant.reads start (stands))
-
-pub suffixes::prefix-returns-in_err-prefix-in-Method-clause-order : goal.suffixes::prefix-returns-in_err-prefix-in-Method-clause-order
-suffixes::prefix-returns-in_err-prefix-in-Method-clause-order t c =
-    handed_on _ c.from_residual-in_err-prefix-in-Method.result _ c.from_residual-in_err-prefix-in-Method.ensures.1
-    (λ start stands. c.in_err-prefix-in-Method.ensures.order _ c.loop-suffix.invariant.reads start (stands))
-
-pub suffixes::prefix-returns-in_err-prefix-in-Arguments-clause-order : goal.suffixes::prefix-returns-in_err-prefix-in-Arguments-clause-order
-suffixes::prefix-returns-in_err-prefix-in-Arguments-clause-order t c =
-    let next = subst (λ suffix. Begin (IsSuffix suffix) (state c.args.tokens.now c.loop-suffix.parser).left) c.in-Arguments.is c.in-Some.ensures in
-    handed_on _ c.from_residual-in_err-prefix-in-Arguments.result _ c.from_residual-in_err-prefix-in-Arguments.ensures.1
-    (λ start stands. c.in_err-prefix-in-Arguments.ensures.order next _ c.loop-suffix.invariant.reads start (stands))
+pub suffixes::prefix-returns-in_err-prefix-2-clause-order : goal.suffixes::prefix-returns-in_err-prefix-2-clause-order
+suffixes::prefix-returns-in_err-prefix-2-clause-order t c =
+    let before = c.loop-suffix.invariant in
+    let order : IfErr c.match-suffix.extended (FirstFault (standing.prefix c.args.at) (state c.args.tokens.now c.args.parser.now) (state c.args.tokens.now c.match-suffix.parser)) = elim c.match-suffix.branch [
+      | suffixes::prefix-in-Member w ↦ rw (w.extended-is, w.parser-is) (on_err w.member-extended.result w.member-extended.ensures.order (λ fault first. first _ before.reads))
+      | suffixes::prefix-in-Item w ↦ rw (w.extended-is, w.parser-is) (on_err w.item-extended.result w.item-extended.ensures.order (λ fault first. first _ before.reads))
+      | suffixes::prefix-in-Method w ↦ rw (w.extended-is, w.parser-is) (on_err w.method-extended.result w.method-extended.ensures.order (λ fault first. first _ before.reads))
+      | suffixes::prefix-in-Arguments w ↦ rw (w.extended-is, w.parser-is) (on_err w.call-extended.result (w.call-extended.ensures.order
+          (subst (λ suffix. Begin (IsSuffix suffix) (state c.args.tokens.now c.loop-suffix.parser).left) w.in-Arguments.is c.in-Some.ensures)) (λ fault first. first _ before.reads))
+    ] in
+    handed_on (FirstFault (standing.prefix c.args.at) (state c.args.tokens.now c.args.parser.now) (state c.args.tokens.now c.match-suffix.parser)) c.from_residual-in_err-prefix-2.result _ c.from_residual-in_err-prefix-2.ensures.1 (refused_by _ _ _ c.in_err-prefix-2.was order)
 
 pub suffixes::primary-returns-clause-reads : goal.suffixes::primary-returns-clause-reads
 suffixes::primary-returns-clause-reads t c =
@@ -673,13 +658,27 @@ pub suffixes::arguments-returns-then-at_text-clause-reads : goal.suffixes::argum
 suffixes::arguments-returns-then-at_text-clause-reads t c =
     on_node _ c.text.ensures (λ v is. text_arg_read _ _ _ _ _ _ c.in_ok-text.ensures.takes is)
 
-pub suffixes::list_arguments-returns-then-at_sign-clause-reads : goal.suffixes::list_arguments-returns-then-at_sign-clause-reads
-suffixes::list_arguments-returns-then-at_sign-clause-reads t c =
-    no_args_read _ _ _ _ _ _ _ c.in_ok-take_sign.ensures.takes c.in_ok-take_sign-2.ensures.takes c.none.ensures
+pub suffixes::list_arguments-returns-then-is_some-clause-reads : goal.suffixes::list_arguments-returns-then-is_some-clause-reads
+suffixes::list_arguments-returns-then-is_some-clause-reads t c =
+    no_args_read _ _ _ _ _ _ _ c.in_ok-take_sign.ensures.takes (skipped _ _ _ _ (sym c.is_some.ensures ∙ c.if-is_some.true) c.skip_sign.ensures.skips).1 c.none.ensures
+
+pub suffixes::list_arguments-returns-then-is_some-clause-forward : goal.suffixes::list_arguments-returns-then-is_some-clause-forward
+suffixes::list_arguments-returns-then-is_some-clause-forward t c =
+    advances_on _ _ _ _ c.in_ok-take_sign.ensures.forward (skipped_on _ _ _ _ (sym c.is_some.ensures ∙ c.if-is_some.true) c.skip_sign.ensures.forward)
 
 pub suffixes::list_arguments-returns-clause-reads : goal.suffixes::list_arguments-returns-clause-reads
 suffixes::list_arguments-returns-clause-reads t c =
-    args_read _ _ _ _ _ _ _ _ _ c.in_ok-take_sign.ensures.takes c.in_ok-inner.ensures c.in_ok-values.ensures.reads c.in_ok-take_sign-3.ensures.takes
+    let none = sym c.is_some.ensures ∙ c.if-is_some.false in
+    let same = stayed _ _ _ _ none c.skip_sign.ensures.forward in
+    let open_ = not_there _ none c.skip_sign.ensures.missing in
+    args_read _ _ _ _ _ _ _ _ _ c.in_ok-take_sign.ensures.takes c.in_ok-inner.ensures (rw same at c.in_ok-values.ensures.reads) c.in_ok-take_sign-2.ensures.takes
+
+pub suffixes::list_arguments-returns-clause-forward : goal.suffixes::list_arguments-returns-clause-forward
+suffixes::list_arguments-returns-clause-forward t c =
+    let none = sym c.is_some.ensures ∙ c.if-is_some.false in
+    let same = stayed _ _ _ _ none c.skip_sign.ensures.forward in
+    let open_ = not_there _ none c.skip_sign.ensures.missing in
+    advances_on _ _ _ _ c.in_ok-take_sign.ensures.forward (advances_on _ _ _ _ (rw same at c.in_ok-values.ensures.forward) c.in_ok-take_sign-2.ensures.forward)
 
 pub suffixes::arguments-returns-in_err-table-clause-refuses : goal.suffixes::arguments-returns-in_err-table-clause-refuses
 suffixes::arguments-returns-in_err-table-clause-refuses t c =
@@ -697,23 +696,28 @@ suffixes::list_arguments-returns-in_err-take_sign-clause-refuses t c = λ no_tex
 
 pub suffixes::list_arguments-returns-in_err-inner-clause-refuses : goal.suffixes::list_arguments-returns-in_err-inner-clause-refuses
 suffixes::list_arguments-returns-in_err-inner-clause-refuses t c = λ no_text no_table.
-    let open_ = untested c.at_sign.result _ c.if-at_sign.false c.at_sign.ensures in
-    handed_on (RefusesArgs c.args.at (state c.args.tokens.now c.args.parser.now) (state c.args.tokens.now c.take_sign.new.self)) c.from_residual-in_err-inner.result _
-    c.from_residual-in_err-inner.ensures.1 (args_no_part c.args.at _ _ _ _ c.in_ok-take_sign.ensures.takes open_ c.in_err-inner.ensures)
+    let none = sym c.is_some.ensures ∙ c.if-is_some.false in
+    let same = stayed _ _ _ _ none c.skip_sign.ensures.forward in
+    let open_ = not_there _ none c.skip_sign.ensures.missing in
+    handed_on (RefusesArgs c.args.at (state c.args.tokens.now c.args.parser.now) (state c.args.tokens.now c.skip_sign.new.self)) c.from_residual-in_err-inner.result _ c.from_residual-in_err-inner.ensures.1
+    (rw same (args_no_part c.args.at _ _ _ _ c.in_ok-take_sign.ensures.takes open_ (rw same at c.in_err-inner.ensures)))
 
 pub suffixes::list_arguments-returns-in_err-values-clause-refuses : goal.suffixes::list_arguments-returns-in_err-values-clause-refuses
 suffixes::list_arguments-returns-in_err-values-clause-refuses t c = λ no_text no_table.
-    let open_ = untested c.at_sign.result _ c.if-at_sign.false c.at_sign.ensures in
-    handed_on (RefusesArgs c.args.at (state c.args.tokens.now c.args.parser.now) (state c.args.tokens.now c.expressions.new.parser)) c.from_residual-in_err-values.result _
-    c.from_residual-in_err-values.ensures.1 (args_refused c.args.at c.in_ok-inner.inner _ _ _ _ _ c.in_ok-take_sign.ensures.takes open_ c.in_ok-inner.ensures c.in_err-values.ensures.refuses)
+    let none = sym c.is_some.ensures ∙ c.if-is_some.false in
+    let same = stayed _ _ _ _ none c.skip_sign.ensures.forward in
+    let open_ = not_there _ none c.skip_sign.ensures.missing in
+    handed_on (RefusesArgs c.args.at (state c.args.tokens.now c.args.parser.now) (state c.args.tokens.now c.expressions.new.parser)) c.from_residual-in_err-values.result _ c.from_residual-in_err-values.ensures.1
+    (args_refused c.args.at c.in_ok-inner.inner _ _ _ _ _ c.in_ok-take_sign.ensures.takes open_ c.in_ok-inner.ensures (rw same at c.in_err-values.ensures.refuses))
 
-pub suffixes::list_arguments-returns-in_err-take_sign-3-clause-refuses : goal.suffixes::list_arguments-returns-in_err-take_sign-3-clause-refuses
-suffixes::list_arguments-returns-in_err-take_sign-3-clause-refuses t c = λ no_text no_table.
-    let open_ = untested c.at_sign.result _ c.if-at_sign.false c.at_sign.ensures in
+pub suffixes::list_arguments-returns-in_err-take_sign-2-clause-refuses : goal.suffixes::list_arguments-returns-in_err-take_sign-2-clause-refuses
+suffixes::list_arguments-returns-in_err-take_sign-2-clause-refuses t c = λ no_text no_table.
+    let none = sym c.is_some.ensures ∙ c.if-is_some.false in
+    let same = stayed _ _ _ _ none c.skip_sign.ensures.forward in
+    let open_ = not_there _ none c.skip_sign.ensures.missing in
     let values = c.in_ok-values.ensures in
-    handed_on (RefusesArgs c.args.at (state c.args.tokens.now c.args.parser.now) (state c.args.tokens.now c.take_sign-2.new.self)) c.from_residual-in_err-take_sign-3.result _
-    c.from_residual-in_err-take_sign-3.ensures.1
-    (args_open c.args.at c.in_ok-inner.inner _ _ _ _ _ c.in_ok-values.values _ c.in_ok-take_sign.ensures.takes open_ values.reads values.ends c.in_err-take_sign-3.ensures.misses)
+    handed_on (RefusesArgs c.args.at (state c.args.tokens.now c.args.parser.now) (state c.args.tokens.now c.take_sign-2.new.self)) c.from_residual-in_err-take_sign-2.result _ c.from_residual-in_err-take_sign-2.ensures.1
+    (args_open c.args.at c.in_ok-inner.inner _ _ _ _ _ c.in_ok-values.values _ c.in_ok-take_sign.ensures.takes open_ (rw same at values.reads) values.ends c.in_err-take_sign-2.ensures.misses)
 
 pub suffixes::arguments-returns-in_err-table-clause-order : goal.suffixes::arguments-returns-in_err-table-clause-order
 suffixes::arguments-returns-in_err-table-clause-order t c =
@@ -722,15 +726,19 @@ suffixes::arguments-returns-in_err-table-clause-order t c =
 
 pub suffixes::list_arguments-returns-in_err-inner-clause-order : goal.suffixes::list_arguments-returns-in_err-inner-clause-order
 suffixes::list_arguments-returns-in_err-inner-clause-order t c =
-    let open_ = untested c.at_sign.result _ c.if-at_sign.false c.at_sign.ensures in
-    handed_on _ c.from_residual-in_err-inner.result _ c.from_residual-in_err-inner.ensures.1
-    (λ start stands. part_breaks _ _ _ _ (few_there _ _) c.in_err-inner.ensures start (standing.in_args stands c.in_ok-take_sign.ensures.takes open_))
+    let none = sym c.is_some.ensures ∙ c.if-is_some.false in
+    let same = stayed _ _ _ _ none c.skip_sign.ensures.forward in
+    let open_ = not_there _ none c.skip_sign.ensures.missing in
+    handed_on (FirstFault (standing.args c.args.at) (state c.args.tokens.now c.args.parser.now) (state c.args.tokens.now c.skip_sign.new.self)) c.from_residual-in_err-inner.result _ c.from_residual-in_err-inner.ensures.1
+    (rw same (λ start stands. part_breaks _ _ _ _ (few_there _ _) (rw same at c.in_err-inner.ensures) start (standing.in_args stands c.in_ok-take_sign.ensures.takes open_)))
 
 pub suffixes::list_arguments-returns-in_err-values-clause-order : goal.suffixes::list_arguments-returns-in_err-values-clause-order
 suffixes::list_arguments-returns-in_err-values-clause-order t c =
-    let open_ = untested c.at_sign.result _ c.if-at_sign.false c.at_sign.ensures in
+    let none = sym c.is_some.ensures ∙ c.if-is_some.false in
+    let same = stayed _ _ _ _ none c.skip_sign.ensures.forward in
+    let open_ = not_there _ none c.skip_sign.ensures.missing in
     handed_on _ c.from_residual-in_err-values.result _ c.from_residual-in_err-values.ensures.1
-    (λ start stands. c.in_err-values.ensures.order start (standing.as_part (standing.in_args stands c.in_ok-take_sign.ensures.takes open_) c.in_ok-inner.ensures))
+    (λ start stands. c.in_err-values.ensures.order start (rw same (standing.as_part (standing.in_args stands c.in_ok-take_sign.ensures.takes open_) c.in_ok-inner.ensures)))
 
 pub suffixes::arguments-returns-in_err-text-clause-order : goal.suffixes::arguments-returns-in_err-text-clause-order
 suffixes::arguments-returns-in_err-text-clause-order t c =
@@ -742,11 +750,14 @@ suffixes::list_arguments-returns-in_err-take_sign-clause-order t c =
     handed_on _ c.from_residual.result _ c.from_residual.ensures.1
     (λ start stands. missing_first _ _ _ _ c.in_err-take_sign.ensures.misses start (standing.before_it stands))
 
-pub suffixes::list_arguments-returns-in_err-take_sign-3-clause-order : goal.suffixes::list_arguments-returns-in_err-take_sign-3-clause-order
-suffixes::list_arguments-returns-in_err-take_sign-3-clause-order t c =
-    let open_ = untested c.at_sign.result _ c.if-at_sign.false c.at_sign.ensures in
-    handed_on _ c.from_residual-in_err-take_sign-3.result _ c.from_residual-in_err-take_sign-3.ensures.1
-    (λ start stands. missing_first _ _ _ _ c.in_err-take_sign-3.ensures.misses start (standing.after_list (standing.as_part (standing.in_args stands c.in_ok-take_sign.ensures.takes open_) c.in_ok-inner.ensures) c.in_ok-values.ensures.reads))
+pub suffixes::list_arguments-returns-in_err-take_sign-2-clause-order : goal.suffixes::list_arguments-returns-in_err-take_sign-2-clause-order
+suffixes::list_arguments-returns-in_err-take_sign-2-clause-order t c =
+    let none = sym c.is_some.ensures ∙ c.if-is_some.false in
+    let same = stayed _ _ _ _ none c.skip_sign.ensures.forward in
+    let open_ = not_there _ none c.skip_sign.ensures.missing in
+    handed_on _ c.from_residual-in_err-take_sign-2.result _ c.from_residual-in_err-take_sign-2.ensures.1
+    (λ start stands. missing_first _ _ _ _ c.in_err-take_sign-2.ensures.misses start
+    (standing.after_list (standing.as_part (standing.in_args stands c.in_ok-take_sign.ensures.takes open_) c.in_ok-inner.ensures) (rw same at c.in_ok-values.ensures.reads)))
 
 pub suffixes::expressions-loop-alloc-init : goal.suffixes::expressions-loop-alloc-init
 suffixes::expressions-loop-alloc-init t c = record {
@@ -757,13 +768,26 @@ suffixes::expressions-loop-alloc-init t c = record {
 pub suffixes::expressions-loop-alloc-preserved : goal.suffixes::expressions-loop-alloc-preserved
 suffixes::expressions-loop-alloc-preserved t c =
     let before = c.loop-alloc.invariant in
+    let is = sym c.is_some.ensures ∙ c.loop-alloc-test.true in
     record {
-      forward = advances_on _ _ _ _ before.forward (advances_on _ _ _ _ c.in_ok-take_sign.ensures.forward c.in_ok-next.ensures.forward);
-      reads = list_more _ _ _ _ _ _ _ _ _ before.reads c.in_ok-take_sign.ensures.takes c.in_ok-next.ensures.reads c.in_ok-next.ensures.ends c.in_ok-push.ensures;
+      forward = advances_on _ _ _ _ before.forward (advances_on _ _ _ _ (skipped_on _ _ _ _ is c.skip_sign.ensures.forward) c.in_ok-next.ensures.forward);
+      reads = list_more _ _ _ _ _ _ _ _ _ before.reads (skipped _ _ _ _ is c.skip_sign.ensures.skips).1 c.in_ok-next.ensures.reads c.in_ok-next.ensures.ends c.in_ok-push.ensures;
     }
 
 pub suffixes::expressions-returns-clause-reads : goal.suffixes::expressions-returns-clause-reads
-suffixes::expressions-returns-clause-reads t c = c.loop-alloc.invariant.reads
+suffixes::expressions-returns-clause-reads t c =
+    let is = sym c.is_some.ensures ∙ c.loop-alloc-test.false in
+    rw (stayed _ _ _ _ is c.skip_sign.ensures.forward) c.loop-alloc.invariant.reads
+
+pub suffixes::expressions-returns-clause-ends : goal.suffixes::expressions-returns-clause-ends
+suffixes::expressions-returns-clause-ends t c =
+    let is = sym c.is_some.ensures ∙ c.loop-alloc-test.false in
+    rw (stayed _ _ _ _ is c.skip_sign.ensures.forward) (no_comma_ahead (state c.args.tokens.now c.loop-alloc.parser) (not_there _ is c.skip_sign.ensures.missing))
+
+pub suffixes::expressions-returns-clause-forward : goal.suffixes::expressions-returns-clause-forward
+suffixes::expressions-returns-clause-forward t c =
+    let is = sym c.is_some.ensures ∙ c.loop-alloc-test.false in
+    rw (stayed _ _ _ _ is c.skip_sign.ensures.forward) c.loop-alloc.invariant.forward
 
 pub suffixes::expressions-returns-in_err-first-clause-refuses : goal.suffixes::expressions-returns-in_err-first-clause-refuses
 suffixes::expressions-returns-in_err-first-clause-refuses t c =
@@ -773,9 +797,9 @@ suffixes::expressions-returns-in_err-first-clause-refuses t c =
 
 pub suffixes::expressions-returns-in_err-next-clause-refuses : goal.suffixes::expressions-returns-in_err-next-clause-refuses
 suffixes::expressions-returns-in_err-next-clause-refuses t c =
-    let small : 1 ≤ 7 = lit≤ tt in
-    let h : IfErr c.from_residual-in_err-next.result (RefusesFrom 1 c.args.at (state c.args.tokens.now c.take_sign.new.self) (state c.args.tokens.now c.expression-in-loop-alloc.new.parser)) = search rules in
-    on_err c.from_residual-in_err-next.result h (λ fault refuses. next_refused c.args.at _ fault _ _ _ _ _ c.loop-alloc.invariant.reads c.in_ok-take_sign.ensures.takes refuses)
+    let is = sym c.is_some.ensures ∙ c.loop-alloc-test.true in
+    handed_on (RefusesList c.args.at (state c.args.tokens.now c.args.parser.now) (state c.args.tokens.now c.expression-in-loop-alloc.new.parser)) c.from_residual-in_err-next.result _ c.from_residual-in_err-next.ensures.1
+    (next_refused c.args.at _ _ _ _ _ _ _ c.loop-alloc.invariant.reads (skipped _ _ _ _ is c.skip_sign.ensures.skips).1 (c.in_err-next.ensures.refuses (lit≤ tt)))
 
 pub suffixes::expressions-returns-in_err-first-clause-order : goal.suffixes::expressions-returns-in_err-first-clause-order
 suffixes::expressions-returns-in_err-first-clause-order t c =
@@ -784,13 +808,9 @@ suffixes::expressions-returns-in_err-first-clause-order t c =
 
 pub suffixes::expressions-returns-in_err-next-clause-order : goal.suffixes::expressions-returns-in_err-next-clause-order
 suffixes::expressions-returns-in_err-next-clause-order t c =
+    let is = sym c.is_some.ensures ∙ c.loop-alloc-test.true in
     handed_on _ c.from_residual-in_err-next.result _ c.from_residual-in_err-next.ensures.1
-    (λ start stands. c.in_err-next.ensures.order start (standing.next_of stands c.loop-alloc.invariant.reads c.in_ok-take_sign.ensures.takes))
-
-pub suffixes::expressions-returns-in_err-take_sign-clause-order : goal.suffixes::expressions-returns-in_err-take_sign-clause-order
-suffixes::expressions-returns-in_err-take_sign-clause-order t c =
-    handed_on _ c.from_residual-in_err-take_sign.result _ c.from_residual-in_err-take_sign.ensures.1
-    (λ start stands. missing_first _ _ _ _ c.in_err-take_sign.ensures.misses start (standing.after_list stands c.loop-alloc.invariant.reads))
+    (λ start stands. c.in_err-next.ensures.order start (standing.next_of stands c.loop-alloc.invariant.reads (skipped _ _ _ _ is c.skip_sign.ensures.skips).1))
 
 pub suffixes::table-loop-at-init : goal.suffixes::table-loop-at-init
 suffixes::table-loop-at-init t c = record {
@@ -800,53 +820,81 @@ suffixes::table-loop-at-init t c = record {
 
 pub suffixes::table-loop-at-preserved : goal.suffixes::table-loop-at-preserved
 suffixes::table-loop-at-preserved t c =
-    let before = c.loop-at.invariant in
-    let pushed = c.in_ok-push_field.ensures.reads in
+    let none = c.is_none.ensures ∙ ap not c.loop-at-test.true in
+    let same = stayed _ _ _ _ none c.skip_sign.ensures.forward in
+    let more = not_there _ none c.skip_sign.ensures.missing in
+    let before = c.loop-at.invariant.reads in
+    let pushed = rw same at c.in_ok-push_field.ensures.reads in
+    let unclosed = sym c.is_some.ensures ∙ c.if-is_some.false in
+    let after = stayed _ _ _ _ unclosed c.skip_sign-in-loop-at.ensures.forward in
     record {
-      forward = advances_on _ _ _ _ before.forward (advances_on _ _ _ _ c.in_ok-push_field.ensures.forward c.in_ok-take_separator.ensures.forward);
+      forward = advances_on _ _ _ _ c.loop-at.invariant.forward (advances_on _ _ _ _ (rw same at c.in_ok-push_field.ensures.forward) (rw after at c.in_ok-take_separator.ensures.forward));
       reads = (
-        before.reads.0,
-        before.reads.1,
-        more_fields_read _ _ _ _ _ _ _ _ _ before.reads.2 pushed.part pushed.reads c.in_ok-take_separator.ensures.takes pushed.adds,
+        before.0,
+        before.1,
+        more_fields_read _ _ _ _ _ _ _ _ _ before.2 pushed.part pushed.reads (rw after at c.in_ok-take_separator.ensures.takes) pushed.adds,
       );
     }
 
-pub suffixes::table-returns-then-at_sign-clause-reads : goal.suffixes::table-returns-then-at_sign-clause-reads
-suffixes::table-returns-then-at_sign-clause-reads t c =
+pub suffixes::table-returns-then-is_some-clause-reads : goal.suffixes::table-returns-then-is_some-clause-reads
+suffixes::table-returns-then-is_some-clause-reads t c =
+    let none = c.is_none.ensures ∙ ap not c.loop-at-test.true in
+    let same = stayed _ _ _ _ none c.skip_sign.ensures.forward in
+    let more = not_there _ none c.skip_sign.ensures.missing in
     let before = c.loop-at.invariant.reads in
-    let pushed = c.in_ok-push_field.ensures.reads in
+    let pushed = rw same at c.in_ok-push_field.ensures.reads in
     on_node _ c.into_table.ensures (λ b is.
-    ending_read _ _ _ _ _ _ _ _ _ _ _ _ _ before.1 before.2 pushed.part pushed.reads pushed.adds c.in_ok-take_sign.ensures.takes is)
+    ending_read _ _ _ _ _ _ _ _ _ _ _ _ _ before.1 before.2 pushed.part pushed.reads pushed.adds (skipped _ _ _ _ (sym c.is_some.ensures ∙ c.if-is_some.true) c.skip_sign-in-loop-at.ensures.skips).1 is)
+
+pub suffixes::table-returns-then-is_some-clause-forward : goal.suffixes::table-returns-then-is_some-clause-forward
+suffixes::table-returns-then-is_some-clause-forward t c =
+    let none = c.is_none.ensures ∙ ap not c.loop-at-test.true in
+    let same = stayed _ _ _ _ none c.skip_sign.ensures.forward in
+    let more = not_there _ none c.skip_sign.ensures.missing in
+    on_done c.into_table.result (advances_on _ _ _ _ c.loop-at.invariant.forward (advances_on _ _ _ _ (rw same at c.in_ok-push_field.ensures.forward) (skipped_on _ _ _ _ (sym c.is_some.ensures ∙ c.if-is_some.true) c.skip_sign-in-loop-at.ensures.forward)))
 
 pub suffixes::table-returns-clause-reads : goal.suffixes::table-returns-clause-reads
 suffixes::table-returns-clause-reads t c =
     let before = c.loop-at.invariant.reads in
-    on_node _ c.into_table-2.ensures (λ b is. separated_read _ _ _ _ _ _ _ _ _ before.1 before.2 c.in_ok-take_sign-2.ensures.takes is)
+    on_node _ c.into_table-2.ensures (λ b is. separated_read _ _ _ _ _ _ _ _ _ before.1 before.2 (skipped _ _ _ _ (c.is_none.ensures ∙ ap not c.loop-at-test.false) c.skip_sign.ensures.skips).1 is)
+
+pub suffixes::table-returns-clause-forward : goal.suffixes::table-returns-clause-forward
+suffixes::table-returns-clause-forward t c =
+    on_done c.into_table-2.result (advances_on _ _ _ _ c.loop-at.invariant.forward (skipped_on _ _ _ _ (c.is_none.ensures ∙ ap not c.loop-at-test.false) c.skip_sign.ensures.forward))
 
 pub suffixes::table-returns-in_err-push_field-clause-refuses : goal.suffixes::table-returns-in_err-push_field-clause-refuses
 suffixes::table-returns-in_err-push_field-clause-refuses t c = λ next.
+    let none = c.is_none.ensures ∙ ap not c.loop-at-test.true in
+    let same = stayed _ _ _ _ none c.skip_sign.ensures.forward in
+    let more = not_there _ none c.skip_sign.ensures.missing in
     let before = c.loop-at.invariant.reads in
-    let more = untested c.at_sign.result _ c.loop-at-test.true c.at_sign.ensures in
     let after : AfterItems c.args.at c.loop-at.items (state c.args.tokens.now c.args.parser.now) (state c.args.tokens.now c.loop-at.parser) =
     record { open_at = _; inside = before.0; opens = before.1; reads = before.2; more = more } in
     handed_on (RefusesTable c.args.at (state c.args.tokens.now c.args.parser.now) (state c.args.tokens.now c.push_field.new.parser)) c.from_residual-in_err-push_field.result _ c.from_residual-in_err-push_field.ensures.1
-    (c.in_err-push_field.ensures.refuses _ after)
+    (c.in_err-push_field.ensures.refuses _ (rw same after))
 
 pub suffixes::table-returns-in_err-take_separator-clause-refuses : goal.suffixes::table-returns-in_err-take_separator-clause-refuses
 suffixes::table-returns-in_err-take_separator-clause-refuses t c = λ next.
+    let none = c.is_none.ensures ∙ ap not c.loop-at-test.true in
+    let same = stayed _ _ _ _ none c.skip_sign.ensures.forward in
+    let more = not_there _ none c.skip_sign.ensures.missing in
     let before = c.loop-at.invariant.reads in
-    let pushed = c.in_ok-push_field.ensures.reads in
+    let pushed = rw same at c.in_ok-push_field.ensures.reads in
+    let unclosed = sym c.is_some.ensures ∙ c.if-is_some.false in
+    let after = stayed _ _ _ _ unclosed c.skip_sign-in-loop-at.ensures.forward in
     handed_on (RefusesTable c.args.at (state c.args.tokens.now c.args.parser.now) (state c.args.tokens.now c.take_separator.new.self)) c.from_residual-in_err-take_separator.result _ c.from_residual-in_err-take_separator.ensures.1
-    (separator_refused c.args.at pushed.inner _ _ _ _ _ _ _ _ pushed.item before.2 before.1 pushed.reads (untested c.at_sign-in-loop-at.result _ c.if-at_sign.false c.at_sign-in-loop-at.ensures) c.in_err-take_separator.ensures.misses)
+    (separator_refused c.args.at pushed.inner _ _ _ _ _ _ _ _ pushed.item before.2 before.1 pushed.reads (not_there _ unclosed c.skip_sign-in-loop-at.ensures.missing) (rw after at c.in_err-take_separator.ensures.misses))
 
 pub suffixes::table-returns-in_err-push_field-clause-order : goal.suffixes::table-returns-in_err-push_field-clause-order
 suffixes::table-returns-in_err-push_field-clause-order t c =
+    let none = c.is_none.ensures ∙ ap not c.loop-at-test.true in
+    let same = stayed _ _ _ _ none c.skip_sign.ensures.forward in
+    let more = not_there _ none c.skip_sign.ensures.missing in
     let before = c.loop-at.invariant.reads in
-    let more = untested c.at_sign.result _ c.loop-at-test.true c.at_sign.ensures in
     let after : AfterItems c.args.at c.loop-at.items (state c.args.tokens.now c.args.parser.now) (state c.args.tokens.now c.loop-at.parser) =
     record { open_at = _; inside = before.0; opens = before.1; reads = before.2; more = more } in
     handed_on _ c.from_residual-in_err-push_field.result _ c.from_residual-in_err-push_field.ensures.1
-    (c.in_err-push_field.ensures.order _ after)
+    (c.in_err-push_field.ensures.order _ (rw same after))
 
 pub suffixes::table-returns-in_err-open-clause-order : goal.suffixes::table-returns-in_err-open-clause-order
 suffixes::table-returns-in_err-open-clause-order t c =
@@ -855,19 +903,16 @@ suffixes::table-returns-in_err-open-clause-order t c =
 
 pub suffixes::table-returns-in_err-take_separator-clause-order : goal.suffixes::table-returns-in_err-take_separator-clause-order
 suffixes::table-returns-in_err-take_separator-clause-order t c =
+    let none = c.is_none.ensures ∙ ap not c.loop-at-test.true in
+    let same = stayed _ _ _ _ none c.skip_sign.ensures.forward in
+    let more = not_there _ none c.skip_sign.ensures.missing in
     let before = c.loop-at.invariant.reads in
-    let pushed = c.in_ok-push_field.ensures.reads in
-    let more = untested c.at_sign.result _ c.loop-at-test.true c.at_sign.ensures in
+    let pushed = rw same at c.in_ok-push_field.ensures.reads in
+    let unclosed = sym c.is_some.ensures ∙ c.if-is_some.false in
+    let after = stayed _ _ _ _ unclosed c.skip_sign-in-loop-at.ensures.forward in
     handed_on _ c.from_residual-in_err-take_separator.result _ c.from_residual-in_err-take_separator.ensures.1
-    (λ start stands. missing_first _ _ _ _ c.in_err-take_separator.ensures.misses start (standing.after_field (standing.as_part (standing.in_table stands before.1 before.2 more) pushed.part) pushed.reads))
-
-pub suffixes::table-returns-in_err-take_sign-clause-order : goal.suffixes::table-returns-in_err-take_sign-clause-order
-suffixes::table-returns-in_err-take_sign-clause-order t c =
-    let before = c.loop-at.invariant.reads in
-    let pushed = c.in_ok-push_field.ensures.reads in
-    let more = untested c.at_sign.result _ c.loop-at-test.true c.at_sign.ensures in
-    handed_on _ c.from_residual-in_err-take_sign.result _ c.from_residual-in_err-take_sign.ensures.1
-    (λ start stands. missing_first _ _ _ _ c.in_err-take_sign.ensures.misses start (standing.after_field (standing.as_part (standing.in_table stands before.1 before.2 more) pushed.part) pushed.reads))
+    (λ start stands. missing_first _ _ _ _ (rw after at c.in_err-take_separator.ensures.misses) start
+    (standing.after_field (standing.as_part (standing.in_table stands before.1 before.2 more) pushed.part) pushed.reads))
 
 pub suffixes::push_field-returns-clause-reads : goal.suffixes::push_field-returns-clause-reads
 suffixes::push_field-returns-clause-reads t c =
@@ -917,16 +962,17 @@ suffixes::field-returns-in_err-value-clause-order t c =
     handed_on _ c.from_residual.result _ c.from_residual.ensures.1
     (λ start stands. c.in_err-value.ensures.order start (standing.plain_field stands (untested c.at_named_field.result _ c.if-at_named_field.false c.at_named_field.ensures)))
 
-pub suffixes::keyed_field-returns-clause-reads : goal.suffixes::keyed_field-returns-clause-reads
-suffixes::keyed_field-returns-clause-reads t c =
-    let same = c.in_ok-key-4.ensures.0 ∙ c.in_ok-key-3.ensures.0 ∙ c.in_ok-key-2.ensures.0 in
-    keyed_read _ _ _ _ _ _ _ _ _ _ _ _ _ c.in_ok-take_sign.ensures.takes (subst (λ key. ReadsExp c.args.at (state c.args.tokens.now c.take_sign.new.self) key (state c.args.tokens.now c.expression.new.parser)) (sym same) c.in_ok-key.ensures.reads) (read_by _ _ _ c.in_ok-key-2.ensures.1 c.take_sign-2.ensures.takes) (read_by _ _ _ c.in_ok-key-3.ensures.1 c.take_sign-3.ensures.takes)
-    (read_by _ _ _ c.in_ok-key-4.ensures.1 c.expression-2.ensures.reads) (done_by _ _ c.in_ok-key-4.ensures.1 c.expression-2.ensures.ends) c.pair.ensures.item c.pair.ensures.height
+pub suffixes::keyed_field-returns-in-Ok-clause-reads : goal.suffixes::keyed_field-returns-in-Ok-clause-reads
+suffixes::keyed_field-returns-in-Ok-clause-reads t c =
+    let same = c.in_ok-key-3.ensures.0 ∙ c.in_ok-key-2.ensures.0 in
+    keyed_read _ _ _ _ _ _ _ _ _ _ _ _ _ c.in_ok-take_sign.ensures.takes (subst (λ key. ReadsExp c.args.at (state c.args.tokens.now c.take_sign.new.self) key (state c.args.tokens.now c.expression.new.parser)) (sym same) c.in_ok-key.ensures.reads)
+    (read_by _ _ _ c.in_ok-key-2.ensures.1 c.take_sign-2.ensures.takes) (read_by _ _ _ c.in_ok-key-3.ensures.1 c.take_sign-3.ensures.takes) c.in-Ok.ensures.reads c.in-Ok.ensures.ends c.pair.ensures.item c.pair.ensures.height
 
-pub suffixes::keyed_field-returns-clause-forward : goal.suffixes::keyed_field-returns-clause-forward
-suffixes::keyed_field-returns-clause-forward t c = advances_on _ _ _ _ c.in_ok-take_sign.ensures.forward (advances_on _ _ _ _ c.in_ok-key.ensures.forward
+pub suffixes::keyed_field-returns-in-Ok-clause-forward : goal.suffixes::keyed_field-returns-in-Ok-clause-forward
+suffixes::keyed_field-returns-in-Ok-clause-forward t c =
+    advances_on _ _ _ _ c.in_ok-take_sign.ensures.forward (advances_on _ _ _ _ c.in_ok-key.ensures.forward
     (advances_on _ _ _ _ (done_by _ _ c.in_ok-key-2.ensures.1 c.take_sign-2.ensures.forward)
-    (advances_on _ _ _ _ (done_by _ _ c.in_ok-key-3.ensures.1 c.take_sign-3.ensures.forward) (done_by _ _ c.in_ok-key-4.ensures.1 c.expression-2.ensures.forward))))
+    (advances_on _ _ _ _ (done_by _ _ c.in_ok-key-3.ensures.1 c.take_sign-3.ensures.forward) c.in-Ok.ensures.forward)))
 
 pub suffixes::keyed_field-returns-in_err-take_sign-clause-refuses : goal.suffixes::keyed_field-returns-in_err-take_sign-clause-refuses
 suffixes::keyed_field-returns-in_err-take_sign-clause-refuses t c = λ next.
@@ -949,23 +995,20 @@ suffixes::keyed_field-returns-in_err-key-3-clause-refuses t c = λ next.
     handed_on (RefusesField c.args.at (state c.args.tokens.now c.args.parser.now) (state c.args.tokens.now c.take_sign-3.new.self)) c.from_residual-in_err-key-3.result _ c.from_residual-in_err-key-3.ensures.1
     (equals_refused c.args.at _ _ _ _ _ _ _ _ _ c.in_ok-take_sign.ensures.takes c.in_ok-key.ensures.reads c.in_ok-key.ensures.ends (read_by _ _ _ c.in_ok-key-2.ensures.1 c.take_sign-2.ensures.takes) (refused_by _ _ _ c.in_err-key-3.ensures c.take_sign-3.ensures.misses))
 
-pub suffixes::keyed_field-returns-in_err-key-4-clause-refuses : goal.suffixes::keyed_field-returns-in_err-key-4-clause-refuses
-suffixes::keyed_field-returns-in_err-key-4-clause-refuses t c = λ next.
-    let small : 1 ≤ 7 = lit≤ tt in
-    handed_on (RefusesField c.args.at (state c.args.tokens.now c.args.parser.now) (state c.args.tokens.now c.expression-2.new.parser)) c.from_residual-in_err-key-4.result _ c.from_residual-in_err-key-4.ensures.1
-    (keyed_value_refused c.args.at _ _ _ _ _ _ _ _ _ _ _ c.in_ok-take_sign.ensures.takes c.in_ok-key.ensures.reads c.in_ok-key.ensures.ends
-    (read_by _ _ _ c.in_ok-key-2.ensures.1 c.take_sign-2.ensures.takes) (read_by _ _ _ c.in_ok-key-3.ensures.1 c.take_sign-3.ensures.takes) (refused_by _ _ _ c.in_err-key-4.ensures (c.expression-2.ensures.refuses small)))
+pub suffixes::keyed_field-returns-in-Err-clause-refuses : goal.suffixes::keyed_field-returns-in-Err-clause-refuses
+suffixes::keyed_field-returns-in-Err-clause-refuses t c = λ next.
+    keyed_value_refused c.args.at _ _ _ _ _ _ _ _ _ _ _ c.in_ok-take_sign.ensures.takes c.in_ok-key.ensures.reads c.in_ok-key.ensures.ends
+    (read_by _ _ _ c.in_ok-key-2.ensures.1 c.take_sign-2.ensures.takes) (read_by _ _ _ c.in_ok-key-3.ensures.1 c.take_sign-3.ensures.takes) (c.in-Err.ensures.refuses (lit≤ tt))
 
 pub suffixes::keyed_field-returns-in_err-key-clause-order : goal.suffixes::keyed_field-returns-in_err-key-clause-order
 suffixes::keyed_field-returns-in_err-key-clause-order t c =
     handed_on _ c.from_residual-in_err-key.result _ c.from_residual-in_err-key.ensures.1
     (λ start stands. c.in_err-key.ensures.order start (standing.field_key stands c.in_ok-take_sign.ensures.takes))
 
-pub suffixes::keyed_field-returns-in_err-key-4-clause-order : goal.suffixes::keyed_field-returns-in_err-key-4-clause-order
-suffixes::keyed_field-returns-in_err-key-4-clause-order t c =
-    handed_on _ c.from_residual-in_err-key-4.result _ c.from_residual-in_err-key-4.ensures.1
-    (λ start stands. refused_by _ _ _ c.in_err-key-4.ensures c.expression-2.ensures.order start
-    (standing.keyed_value stands c.in_ok-take_sign.ensures.takes c.in_ok-key.ensures.reads (read_by _ _ _ c.in_ok-key-2.ensures.1 c.take_sign-2.ensures.takes) (read_by _ _ _ c.in_ok-key-3.ensures.1 c.take_sign-3.ensures.takes)))
+pub suffixes::keyed_field-returns-in-Err-clause-order : goal.suffixes::keyed_field-returns-in-Err-clause-order
+suffixes::keyed_field-returns-in-Err-clause-order t c = λ start stands.
+    c.in-Err.ensures.order start
+    (standing.keyed_value stands c.in_ok-take_sign.ensures.takes c.in_ok-key.ensures.reads (read_by _ _ _ c.in_ok-key-2.ensures.1 c.take_sign-2.ensures.takes) (read_by _ _ _ c.in_ok-key-3.ensures.1 c.take_sign-3.ensures.takes))
 
 pub suffixes::keyed_field-returns-in_err-take_sign-clause-order : goal.suffixes::keyed_field-returns-in_err-take_sign-clause-order
 suffixes::keyed_field-returns-in_err-take_sign-clause-order t c =
@@ -1057,42 +1100,45 @@ statements::arm-returns-in_err-test-2-clause-order t c =
 
 pub statements::arms-loop-alloc-init : goal.statements::arms-loop-alloc-init
 statements::arms-loop-alloc-init t c =
+    let pushed = c.in_ok-push_read.ensures in
     record {
-      forward = c.in_ok-first.ensures.forward;
-      reads = λ line. arms_one _ _ _ _ _ _ c.in_ok-first.ensures.reads c.in_ok-arms.ensures.items;
+      forward = done_by _ _ pushed.1 c.arm.ensures.forward;
+      reads = λ line. arms_one _ _ _ _ _ _ (read_by _ _ _ pushed.1 c.arm.ensures.reads) (rw c.new-arms.ensures.items at pushed.2);
     }
 
 pub statements::arms-loop-alloc-preserved : goal.statements::arms-loop-alloc-preserved
 statements::arms-loop-alloc-preserved t c =
+    let pushed = c.in_ok-push_read-2.ensures in
     record {
-      forward = search rules;
-      reads = λ line. arms_more _ _ _ _ _ _ _ _ _ _ (c.loop-alloc.invariant.reads line) c.in_ok-take_word.ensures.takes c.in_ok-next.ensures.reads c.in_ok-push.ensures.items;
+      forward = advances_on _ _ _ _ c.loop-alloc.invariant.forward (advances_on _ _ _ _ c.in_ok-take_word.ensures.forward (done_by _ _ pushed.1 c.arm-in-loop-alloc.ensures.forward));
+      reads = λ line. arms_more _ _ _ _ _ _ _ _ _ _ (c.loop-alloc.invariant.reads line) c.in_ok-take_word.ensures.takes (read_by _ _ _ pushed.1 c.arm-in-loop-alloc.ensures.reads) pushed.2;
     }
 
-pub statements::arms-returns-in_err-first-clause-refuses : goal.statements::arms-returns-in_err-first-clause-refuses
-statements::arms-returns-in_err-first-clause-refuses t c =
-    let h : IfErr c.from_residual.result (RefusesArm c.args.at (state c.args.tokens.now c.args.parser.now) (state c.args.tokens.now c.arm.new.parser)) = search rules in
-    on_err c.from_residual.result h (λ fault refuses. first_arm_refused c.args.at _ _ fault refuses)
+pub statements::arms-returns-in_err-push_read-clause-refuses : goal.statements::arms-returns-in_err-push_read-clause-refuses
+statements::arms-returns-in_err-push_read-clause-refuses t c =
+    handed_on (RefusesArms c.args.at (state c.args.tokens.now c.args.parser.now) (state c.args.tokens.now c.arm.new.parser)) c.from_residual.result _ c.from_residual.ensures.1
+    (pushed_refused (RefusesArms c.args.at (state c.args.tokens.now c.args.parser.now) (state c.args.tokens.now c.arm.new.parser)) c.arm.result _ c.in_err-push_read.ensures
+    (on_err c.arm.result c.arm.ensures.refuses (λ fault refuses. first_arm_refused c.args.at _ _ fault refuses)) (λ i k never none. absurd none))
 
-pub statements::arms-returns-in_err-arms-clause-refuses : goal.statements::arms-returns-in_err-arms-clause-refuses
-statements::arms-returns-in_err-arms-clause-refuses t c =
-    let h : IfErr c.from_residual-in_err-arms.result IsMemory = search rules in
-    on_want _ c.from_residual-in_err-arms.result (λ i k never none. absurd none) h
+pub statements::arms-returns-in_err-push_read-2-clause-refuses : goal.statements::arms-returns-in_err-push_read-2-clause-refuses
+statements::arms-returns-in_err-push_read-2-clause-refuses t c =
+    handed_on (RefusesArms c.args.at (state c.args.tokens.now c.args.parser.now) (state c.args.tokens.now c.arm-in-loop-alloc.new.parser)) c.from_residual-in_err-push_read-2.result _ c.from_residual-in_err-push_read-2.ensures.1
+    (pushed_refused (RefusesArms c.args.at (state c.args.tokens.now c.args.parser.now) (state c.args.tokens.now c.arm-in-loop-alloc.new.parser)) c.arm-in-loop-alloc.result _ c.in_err-push_read-2.ensures
+    (on_err c.arm-in-loop-alloc.result c.arm-in-loop-alloc.ensures.refuses (λ fault refuses. next_arm_refused c.args.at _ _ _ _ _ _ fault c.loop-alloc.invariant.reads c.in_ok-take_word.ensures.takes refuses))
+    (λ i k never none. absurd none))
 
-pub statements::arms-returns-in_err-next-clause-refuses : goal.statements::arms-returns-in_err-next-clause-refuses
-statements::arms-returns-in_err-next-clause-refuses t c =
-    let h : IfErr c.from_residual-in_err-next.result (RefusesArm c.args.at (state c.args.tokens.now c.take_word.new.self) (state c.args.tokens.now c.arm-in-loop-alloc.new.parser)) = search rules in
-    on_err c.from_residual-in_err-next.result h (λ fault refuses. next_arm_refused c.args.at _ _ _ _ _ _ fault c.loop-alloc.invariant.reads c.in_ok-take_word.ensures.takes refuses)
+pub statements::arms-returns-in_err-push_read-clause-order : goal.statements::arms-returns-in_err-push_read-clause-order
+statements::arms-returns-in_err-push_read-clause-order t c =
+    handed_on (FirstFault (standing.arms c.args.at) (state c.args.tokens.now c.args.parser.now) (state c.args.tokens.now c.arm.new.parser)) c.from_residual.result _ c.from_residual.ensures.1
+    (pushed_refused (FirstFault (standing.arms c.args.at) (state c.args.tokens.now c.args.parser.now) (state c.args.tokens.now c.arm.new.parser)) c.arm.result _ c.in_err-push_read.ensures
+    (on_err c.arm.result c.arm.ensures.order (λ fault first start stands. first start (standing.first_arm stands))) (λ start stands. tt))
 
-pub statements::arms-returns-in_err-first-clause-order : goal.statements::arms-returns-in_err-first-clause-order
-statements::arms-returns-in_err-first-clause-order t c =
-    handed_on _ c.from_residual.result _ c.from_residual.ensures.1
-    (λ start stands. c.in_err-first.ensures.order start (standing.first_arm stands))
-
-pub statements::arms-returns-in_err-next-clause-order : goal.statements::arms-returns-in_err-next-clause-order
-statements::arms-returns-in_err-next-clause-order t c =
-    handed_on _ c.from_residual-in_err-next.result _ c.from_residual-in_err-next.ensures.1
-    (λ start stands. c.in_err-next.ensures.order start (standing.next_arm stands c.loop-alloc.invariant.reads c.in_ok-take_word.ensures.takes))
+pub statements::arms-returns-in_err-push_read-2-clause-order : goal.statements::arms-returns-in_err-push_read-2-clause-order
+statements::arms-returns-in_err-push_read-2-clause-order t c =
+    handed_on (FirstFault (standing.arms c.args.at) (state c.args.tokens.now c.args.parser.now) (state c.args.tokens.now c.arm-in-loop-alloc.new.parser)) c.from_residual-in_err-push_read-2.result _ c.from_residual-in_err-push_read-2.ensures.1
+    (pushed_refused (FirstFault (standing.arms c.args.at) (state c.args.tokens.now c.args.parser.now) (state c.args.tokens.now c.arm-in-loop-alloc.new.parser)) c.arm-in-loop-alloc.result _ c.in_err-push_read-2.ensures
+    (on_err c.arm-in-loop-alloc.result c.arm-in-loop-alloc.ensures.order (λ fault first start stands. first start (standing.next_arm stands c.loop-alloc.invariant.reads c.in_ok-take_word.ensures.takes)))
+    (λ start stands. tt))
 
 pub statements::arms-returns-in_err-take_word-clause-order : goal.statements::arms-returns-in_err-take_word-clause-order
 statements::arms-returns-in_err-take_word-clause-order t c =
@@ -1143,38 +1189,44 @@ statements::block-returns-in-Nothing-clause-reads t c =
 
 pub statements::block-returns-in-Last-clause-reads : goal.statements::block-returns-in-Last-clause-reads
 statements::block-returns-in-Last-clause-reads t c =
-    block_last _ _ _ _ _ _ _ _ _ c.loop-statements.invariant.reads c.in_ok-last-in-Last.ensures.reads c.skip_sign.ensures.skips c.skip_sign.ensures.missing c.in_ok-push-in-Last.ensures.items
+    let pushed = c.in_ok-push_read-in-Last.ensures in
+    block_last _ _ _ _ _ _ _ _ _ c.loop-statements.invariant.reads (read_by _ _ _ pushed.1 c.last.ensures.reads) c.skip_sign.ensures.skips c.skip_sign.ensures.missing pushed.2
 
 pub statements::block-loop-statements-preserved : goal.statements::block-loop-statements-preserved
 statements::block-loop-statements-preserved t c =
+    let pushed = c.in_ok-push_read-in_default.ensures in
+    let forward = done_by _ _ pushed.1 c.statement.ensures.forward in
     record {
       forward = search rules;
-      reads = stats_more _ _ _ _ _ _ _ _ _ c.loop-statements.invariant.reads c.in_ok-statement-in_default.ensures.reads c.skip_sign-in_default.ensures.skips c.skip_sign-in_default.ensures.missing c.in_ok-push-in_default.ensures.items;
+      reads = stats_more _ _ _ _ _ _ _ _ _ c.loop-statements.invariant.reads (read_by _ _ _ pushed.1 c.statement.ensures.reads) c.skip_sign-in_default.ensures.skips c.skip_sign-in_default.ensures.missing pushed.2;
     }
 
-pub statements::block-returns-in_err-last-in-Last-clause-refuses : goal.statements::block-returns-in_err-last-in-Last-clause-refuses
-statements::block-returns-in_err-last-in-Last-clause-refuses t c =
+pub statements::block-returns-in_err-push_read-in-Last-clause-refuses : goal.statements::block-returns-in_err-push_read-in-Last-clause-refuses
+statements::block-returns-in_err-push_read-in-Last-clause-refuses t c =
     let next = sym c.begins.ensures ∙ c.in-Last.is in
-    let last : IfErr c.last.result (RefusesLast c.args.at (state c.args.tokens.now c.loop-statements.parser) (state c.args.tokens.now c.last.new.parser)) = c.last.ensures.refuses next in
-    let h : IfErr c.from_residual.result (RefusesLast c.args.at (state c.args.tokens.now c.loop-statements.parser) (state c.args.tokens.now c.last.new.parser)) = search rules in
-    on_err c.from_residual.result h (λ fault refuses. last_refused c.args.at _ _ _ _ fault c.loop-statements.invariant.reads next refuses)
+    handed_on (RefusesBlock c.args.at (state c.args.tokens.now c.args.parser.now) (state c.args.tokens.now c.last.new.parser)) c.from_residual.result _ c.from_residual.ensures.1
+    (pushed_refused (RefusesBlock c.args.at (state c.args.tokens.now c.args.parser.now) (state c.args.tokens.now c.last.new.parser)) c.last.result _ c.in_err-push_read-in-Last.ensures
+    (on_err c.last.result (c.last.ensures.refuses next) (λ fault refuses. last_refused c.args.at _ _ _ _ fault c.loop-statements.invariant.reads next refuses)) (λ k none. absurd none))
 
-pub statements::block-returns-in_err-statement-in_default-clause-refuses : goal.statements::block-returns-in_err-statement-in_default-clause-refuses
-statements::block-returns-in_err-statement-in_default-clause-refuses t c =
+pub statements::block-returns-in_err-push_read-in_default-clause-refuses : goal.statements::block-returns-in_err-push_read-in_default-clause-refuses
+statements::block-returns-in_err-push_read-in_default-clause-refuses t c =
     let some : IsStatement c.begins.result = is_statement _ c.in_default.not-Last c.in_default.not-Nothing in
-    let stat : IfErr c.statement.result (RefusesStat c.args.at (state c.args.tokens.now c.loop-statements.parser) (state c.args.tokens.now c.statement.new.parser)) = c.statement.ensures.refuses c.begins.ensures some in
-    let h : IfErr c.from_residual-in_err-statement-in_default.result (RefusesStat c.args.at (state c.args.tokens.now c.loop-statements.parser) (state c.args.tokens.now c.statement.new.parser)) = search rules in
-    on_err c.from_residual-in_err-statement-in_default.result h (λ fault refuses. stat_refused c.args.at _ _ _ _ fault c.loop-statements.invariant.reads (subst IsStatement c.begins.ensures some) refuses)
+    handed_on (RefusesBlock c.args.at (state c.args.tokens.now c.args.parser.now) (state c.args.tokens.now c.statement.new.parser)) c.from_residual-in_err-push_read-in_default.result _ c.from_residual-in_err-push_read-in_default.ensures.1
+    (pushed_refused (RefusesBlock c.args.at (state c.args.tokens.now c.args.parser.now) (state c.args.tokens.now c.statement.new.parser)) c.statement.result _ c.in_err-push_read-in_default.ensures
+    (on_err c.statement.result (c.statement.ensures.refuses c.begins.ensures some) (λ fault refuses. stat_refused c.args.at _ _ _ _ fault c.loop-statements.invariant.reads (subst IsStatement c.begins.ensures some) refuses))
+    (λ k none. absurd none))
 
-pub statements::block-returns-in_err-last-in-Last-clause-order : goal.statements::block-returns-in_err-last-in-Last-clause-order
-statements::block-returns-in_err-last-in-Last-clause-order t c =
-    handed_on _ c.from_residual.result _ c.from_residual.ensures.1
-    (λ start stands. c.in_err-last-in-Last.ensures.order start (standing.one_of stands c.loop-statements.invariant.reads))
+pub statements::block-returns-in_err-push_read-in-Last-clause-order : goal.statements::block-returns-in_err-push_read-in-Last-clause-order
+statements::block-returns-in_err-push_read-in-Last-clause-order t c =
+    handed_on (FirstFault (standing.here standing.block c.args.at) (state c.args.tokens.now c.args.parser.now) (state c.args.tokens.now c.last.new.parser)) c.from_residual.result _ c.from_residual.ensures.1
+    (pushed_refused (FirstFault (standing.here standing.block c.args.at) (state c.args.tokens.now c.args.parser.now) (state c.args.tokens.now c.last.new.parser)) c.last.result _ c.in_err-push_read-in-Last.ensures
+    (on_err c.last.result c.last.ensures.order (λ fault first start stands. first start (standing.one_of stands c.loop-statements.invariant.reads))) (λ start stands. tt))
 
-pub statements::block-returns-in_err-statement-in_default-clause-order : goal.statements::block-returns-in_err-statement-in_default-clause-order
-statements::block-returns-in_err-statement-in_default-clause-order t c =
-    handed_on _ c.from_residual-in_err-statement-in_default.result _ c.from_residual-in_err-statement-in_default.ensures.1
-    (λ start stands. c.in_err-statement-in_default.ensures.order start (standing.one_of stands c.loop-statements.invariant.reads))
+pub statements::block-returns-in_err-push_read-in_default-clause-order : goal.statements::block-returns-in_err-push_read-in_default-clause-order
+statements::block-returns-in_err-push_read-in_default-clause-order t c =
+    handed_on (FirstFault (standing.here standing.block c.args.at) (state c.args.tokens.now c.args.parser.now) (state c.args.tokens.now c.statement.new.parser)) c.from_residual-in_err-push_read-in_default.result _ c.from_residual-in_err-push_read-in_default.ensures.1
+    (pushed_refused (FirstFault (standing.here standing.block c.args.at) (state c.args.tokens.now c.args.parser.now) (state c.args.tokens.now c.statement.new.parser)) c.statement.result _ c.in_err-push_read-in_default.ensures
+    (on_err c.statement.result c.statement.ensures.order (λ fault first start stands. first start (standing.one_of stands c.loop-statements.invariant.reads))) (λ start stands. tt))
 
 pub statements::body-returns-clause-reads : goal.statements::body-returns-clause-reads
 statements::body-returns-clause-reads t c =
@@ -1894,11 +1946,11 @@ loops::range-returns-in_err-from-3-clause-refuses t c = λ names one next.
     (one_name c.args.at names _ _ _ one (λ f l n is.
     range_to_refused c.args.at f l n _ _ _ _ _ _ _ _ _ c.in_ok-take_sign.ensures.takes c.in_ok-from.ensures.reads (read_by _ _ _ c.in_ok-from-2.ensures.1 c.take_sign-2.ensures.takes) (refused_by _ _ _ c.in_err-from-3.ensures c.value-2.ensures.refuses)))
 
-pub loops::range-returns-in_err-ends-clause-refuses : goal.loops::range-returns-in_err-ends-clause-refuses
-loops::range-returns-in_err-ends-clause-refuses t c = λ names one next.
-    handed_on (RefusesFor c.args.at names (state c.args.tokens.now c.args.parser.now) (state c.args.tokens.now c.step.new.parser)) c.from_residual-in_err-ends.result _ c.from_residual-in_err-ends.ensures.1
-    (one_name c.args.at names _ _ _ one (λ f l n is.
-    range_step_refused c.args.at f l n _ _ _ _ _ _ _ _ _ _ _ c.in_ok-take_sign.ensures.takes c.in_ok-from.ensures.reads (read_by _ _ _ c.in_ok-from-2.ensures.1 c.take_sign-2.ensures.takes) (read_by _ _ _ c.in_ok-from-3.ensures.1 c.value-2.ensures.reads) (refused_by _ _ _ c.in_err-ends.ensures c.step.ensures.refuses)))
+pub loops::range-returns-in-Err-clause-refuses : goal.loops::range-returns-in-Err-clause-refuses
+loops::range-returns-in-Err-clause-refuses t c = λ names one next.
+    one_name c.args.at names _ _ _ one (λ f l n is.
+    range_step_refused c.args.at f l n _ _ _ _ _ _ _ _ _ _ _ c.in_ok-take_sign.ensures.takes c.in_ok-from.ensures.reads (read_by _ _ _ c.in_ok-from-2.ensures.1 c.take_sign-2.ensures.takes)
+    (read_by _ _ _ c.in_ok-from-3.ensures.1 c.value-2.ensures.reads) c.in-Err.ensures.refuses)
 
 pub loops::range_loop-returns-in_err-range-2-clause-refuses : goal.loops::range_loop-returns-in_err-range-2-clause-refuses
 loops::range_loop-returns-in_err-range-2-clause-refuses t c = λ next.
@@ -1925,10 +1977,10 @@ loops::range-returns-in_err-from-3-clause-order t c = λ names one.
     handed_on _ c.from_residual-in_err-from-3.result _ c.from_residual-in_err-from-3.ensures.1
     (λ start stands. refused_by _ _ _ c.in_err-from-3.ensures c.value-2.ensures.order start (standing.for_limit stands one c.in_ok-take_sign.ensures.takes c.in_ok-from.ensures.reads (read_by _ _ _ c.in_ok-from-2.ensures.1 c.take_sign-2.ensures.takes)))
 
-pub loops::range-returns-in_err-ends-clause-order : goal.loops::range-returns-in_err-ends-clause-order
-loops::range-returns-in_err-ends-clause-order t c = λ names one.
-    handed_on _ c.from_residual-in_err-ends.result _ c.from_residual-in_err-ends.ensures.1
-    (λ start stands. refused_by _ _ _ c.in_err-ends.ensures c.step.ensures.order start (standing.for_step stands one c.in_ok-take_sign.ensures.takes c.in_ok-from.ensures.reads (read_by _ _ _ c.in_ok-from-2.ensures.1 c.take_sign-2.ensures.takes) (read_by _ _ _ c.in_ok-from-3.ensures.1 c.value-2.ensures.reads)))
+pub loops::range-returns-in-Err-clause-order : goal.loops::range-returns-in-Err-clause-order
+loops::range-returns-in-Err-clause-order t c = λ names one start stands.
+    c.in-Err.ensures.order start (standing.for_step stands one c.in_ok-take_sign.ensures.takes c.in_ok-from.ensures.reads (read_by _ _ _ c.in_ok-from-2.ensures.1 c.take_sign-2.ensures.takes)
+    (read_by _ _ _ c.in_ok-from-3.ensures.1 c.value-2.ensures.reads))
 
 pub loops::range_loop-returns-in_err-range-2-clause-order : goal.loops::range_loop-returns-in_err-range-2-clause-order
 loops::range_loop-returns-in_err-range-2-clause-order t c =
@@ -1938,10 +1990,9 @@ loops::range_loop-returns-in_err-range-2-clause-order t c =
     (λ start stands. refused_by _ _ _ c.in_err-range-2.ensures (c.loop_block-block.ensures.order (few_in_range c.args.at _ _ _ _ _ _ _ _ _ _ _ _ _ c.in_ok-range.range.step few range.equals range.from range.comma range.to range.step)) start
     (standing.for_range c.in_ok-range.range.step stands one range.equals range.from range.comma range.to range.step))
 
-pub loops::range-returns-clause-reads : goal.loops::range-returns-clause-reads
-loops::range-returns-clause-reads t c =
-    let from : c.in_ok-ends.ends.0 ≡ c.in_ok-from.from = ap (λ ends. ends.0) c.in_ok-ends.ensures.0 ∙ c.in_ok-from-3.ensures.0 ∙ c.in_ok-from-2.ensures.0 in
-    let to : c.in_ok-ends.ends.1 ≡ c.in_ok-from-3.to = ap (λ ends. ends.1) c.in_ok-ends.ensures.0 in
+pub loops::range-returns-in-Ok-clause-reads : goal.loops::range-returns-in-Ok-clause-reads
+loops::range-returns-in-Ok-clause-reads t c =
+    let same = c.in_ok-from-3.ensures.0 ∙ c.in_ok-from-2.ensures.0 in
     record {
       equals_at = _;
       comma_at = _;
@@ -1950,16 +2001,17 @@ loops::range-returns-clause-reads t c =
       third = (state c.args.tokens.now c.take_sign-2.new.self);
       last = (state c.args.tokens.now c.value-2.new.parser);
       equals = c.in_ok-take_sign.ensures.takes;
-      from = subst (λ e. ReadsValue c.args.at (state c.args.tokens.now c.take_sign.new.self) e (state c.args.tokens.now c.value.new.parser)) (sym from) c.in_ok-from.ensures.reads;
-      comma = (read_by _ _ _ c.in_ok-from-2.ensures.1 c.take_sign-2.ensures.takes);
-      to = subst (λ e. ReadsValue c.args.at (state c.args.tokens.now c.take_sign-2.new.self) e (state c.args.tokens.now c.value-2.new.parser)) (sym to) (read_by _ _ _ c.in_ok-from-3.ensures.1 c.value-2.ensures.reads);
-      step = read_by _ _ _ c.in_ok-ends.ensures.1 c.step.ensures.reads;
-      stops = read_by _ _ _ c.in_ok-ends.ensures.1 c.step.ensures.stops;
+      from = subst (λ e. ReadsValue c.args.at (state c.args.tokens.now c.take_sign.new.self) e (state c.args.tokens.now c.value.new.parser)) (sym same) c.in_ok-from.ensures.reads;
+      comma = read_by _ _ _ c.in_ok-from-2.ensures.1 c.take_sign-2.ensures.takes;
+      to = read_by _ _ _ c.in_ok-from-3.ensures.1 c.value-2.ensures.reads;
+      step = c.in-Ok.ensures.reads;
+      stops = c.in-Ok.ensures.stops;
     }
 
-pub loops::range-returns-clause-forward : goal.loops::range-returns-clause-forward
-loops::range-returns-clause-forward t c = advances_stays _ _ _ _ (advances_on _ _ _ _ c.in_ok-take_sign.ensures.forward (advances_on _ _ _ _ c.in_ok-from.ensures.forward
-    (advances_on _ _ _ _ (done_by _ _ c.in_ok-from-2.ensures.1 c.take_sign-2.ensures.forward) (done_by _ _ c.in_ok-from-3.ensures.1 c.value-2.ensures.forward)))) (done_by _ _ c.in_ok-ends.ensures.1 c.step.ensures.forward)
+pub loops::range-returns-in-Ok-clause-forward : goal.loops::range-returns-in-Ok-clause-forward
+loops::range-returns-in-Ok-clause-forward t c =
+    advances_stays _ _ _ _ (advances_on _ _ _ _ c.in_ok-take_sign.ensures.forward (advances_on _ _ _ _ c.in_ok-from.ensures.forward
+    (advances_on _ _ _ _ (done_by _ _ c.in_ok-from-2.ensures.1 c.take_sign-2.ensures.forward) (done_by _ _ c.in_ok-from-3.ensures.1 c.value-2.ensures.forward)))) c.in-Ok.ensures.forward
 
 pub loops::range-returns-in_err-take_sign-clause-order : goal.loops::range-returns-in_err-take_sign-clause-order
 loops::range-returns-in_err-take_sign-clause-order t c = λ names one.
@@ -2204,9 +2256,11 @@ statements::values-returns-in_err-values-clause-order t c =
 
 pub loops::while_loop-returns-clause-reads : goal.loops::while_loop-returns-clause-reads
 loops::while_loop-returns-clause-reads t c =
-    let same = c.in_ok-test-4.ensures.0 ∙ c.in_ok-test-3.ensures.0 ∙ c.in_ok-test-2.ensures.0 in
+    let same = c.in_ok-test-3.ensures.0 ∙ c.in_ok-test-2.ensures.0 in
+    let body = read_by _ _ _ c.in_ok-test-3.ensures.1 c.before_word.ensures.reads in
+    let end_ = done_by _ _ c.in_ok-test-3.ensures.1 c.before_word.ensures.takes in
     on_node _ c.while_node.ensures (λ out is. while_read _ _ _ _ _ _ _ _ _ _ _ _ _ _ c.in_ok-line.ensures.takes (subst (λ test. ReadsValue c.args.at (state c.args.tokens.now c.take_word.new.self) test (state c.args.tokens.now c.value.new.parser)) (sym same) c.in_ok-test.ensures.reads)
-    (read_by _ _ _ c.in_ok-test-2.ensures.1 c.take_word-2.ensures.takes) c.looped.ensures (read_by _ _ _ c.in_ok-test-3.ensures.1 c.scoped.ensures.reads) (read_by _ _ _ c.in_ok-test-4.ensures.1 c.take_word-3.ensures.takes) is)
+    (read_by _ _ _ c.in_ok-test-2.ensures.1 c.take_word-2.ensures.takes) c.looped.ensures (read_by _ _ _ body c.scoped-body.ensures.reads) end_.1 is)
 
 pub loops::while_loop-returns-in_err-line-clause-refuses : goal.loops::while_loop-returns-in_err-line-clause-refuses
 loops::while_loop-returns-in_err-line-clause-refuses t c = λ next.
@@ -2225,20 +2279,20 @@ loops::while_loop-returns-in_err-test-2-clause-refuses t c = λ next.
 
 pub loops::while_loop-returns-in_err-test-3-clause-refuses : goal.loops::while_loop-returns-in_err-test-3-clause-refuses
 loops::while_loop-returns-in_err-test-3-clause-refuses t c = λ next.
-    handed_on (RefusesStat c.args.at (state c.args.tokens.now c.args.parser.now) (state c.args.tokens.now c.scoped.new.parser)) c.from_residual-in_err-test-3.result _ c.from_residual-in_err-test-3.ensures.1
-    (while_block_refused c.args.at c.looped.result _ _ _ _ _ _ _ _ _ c.in_ok-line.ensures.takes c.in_ok-test.ensures.reads (read_by _ _ _ c.in_ok-test-2.ensures.1 c.take_word-2.ensures.takes) c.looped.ensures (refused_by _ _ _ c.in_err-test-3.ensures c.scoped.ensures.refuses))
-
-pub loops::while_loop-returns-in_err-test-4-clause-refuses : goal.loops::while_loop-returns-in_err-test-4-clause-refuses
-loops::while_loop-returns-in_err-test-4-clause-refuses t c = λ next.
-    handed_on (RefusesStat c.args.at (state c.args.tokens.now c.args.parser.now) (state c.args.tokens.now c.take_word-3.new.self)) c.from_residual-in_err-test-4.result _ c.from_residual-in_err-test-4.ensures.1
-    (while_end_refused c.args.at c.looped.result _ _ _ _ _ _ _ _ _ _ _ c.in_ok-line.ensures.takes c.in_ok-test.ensures.reads (read_by _ _ _ c.in_ok-test-2.ensures.1 c.take_word-2.ensures.takes) (read_by _ _ _ c.in_ok-test-3.ensures.1 c.scoped.ensures.reads) (refused_by _ _ _ c.in_err-test-4.ensures c.take_word-3.ensures.misses))
+    handed_on (RefusesStat c.args.at (state c.args.tokens.now c.args.parser.now) (state c.args.tokens.now c.before_word.new.parser)) c.from_residual-in_err-test-3.result _ c.from_residual-in_err-test-3.ensures.1
+    (before_refused (OnAt (Misses (IsKind (Word word.End)) (state c.args.tokens.now c.scoped-body.new.parser) (state c.args.tokens.now c.before_word.new.parser))) (RefusesStat c.args.at (state c.args.tokens.now c.args.parser.now)) c.args.tokens.now _ _ c.scoped-body.result _ (refused_by _ _ _ c.in_err-test-3.ensures c.before_word.ensures.refuses)
+    (on_err c.scoped-body.result c.scoped-body.ensures.refuses (λ fault refuses.
+    while_block_refused c.args.at c.looped.result _ _ _ _ _ _ _ _ _ c.in_ok-line.ensures.takes c.in_ok-test.ensures.reads (read_by _ _ _ c.in_ok-test-2.ensures.1 c.take_word-2.ensures.takes) c.looped.ensures refuses))
+    (λ body is missed.
+    while_end_refused c.args.at c.looped.result _ _ _ _ _ _ _ _ _ _ _ c.in_ok-line.ensures.takes c.in_ok-test.ensures.reads (read_by _ _ _ c.in_ok-test-2.ensures.1 c.take_word-2.ensures.takes) (read_by _ _ _ is c.scoped-body.ensures.reads) missed))
 
 pub loops::while_loop-returns-clause-refuses : goal.loops::while_loop-returns-clause-refuses
 loops::while_loop-returns-clause-refuses t c = λ next. on_memory _ _ c.while_node.result (λ k never none. absurd none) c.while_node.ensures
 
 pub loops::while_loop-returns-clause-forward : goal.loops::while_loop-returns-clause-forward
-loops::while_loop-returns-clause-forward t c = on_done c.while_node.result (advances_on _ _ _ _
-    (advances_stays _ _ _ _ (advances_on _ _ _ _ c.in_ok-line.ensures.forward (advances_on _ _ _ _ c.in_ok-test.ensures.forward (done_by _ _ c.in_ok-test-2.ensures.1 c.take_word-2.ensures.forward))) (done_by _ _ c.in_ok-test-3.ensures.1 c.scoped.ensures.forward)) (done_by _ _ c.in_ok-test-4.ensures.1 c.take_word-3.ensures.forward))
+loops::while_loop-returns-clause-forward t c = on_done c.while_node.result
+    (advances_on _ _ _ _ (advances_stays _ _ _ _ (advances_on _ _ _ _ c.in_ok-line.ensures.forward (advances_on _ _ _ _ c.in_ok-test.ensures.forward (done_by _ _ c.in_ok-test-2.ensures.1 c.take_word-2.ensures.forward)))
+    (done_by _ _ (read_by _ _ _ c.in_ok-test-3.ensures.1 c.before_word.ensures.reads) c.scoped-body.ensures.forward)) (done_by _ _ c.in_ok-test-3.ensures.1 c.before_word.ensures.forward))
 
 pub loops::while_loop-returns-in_err-test-clause-order : goal.loops::while_loop-returns-in_err-test-clause-order
 loops::while_loop-returns-in_err-test-clause-order t c =
@@ -2247,8 +2301,10 @@ loops::while_loop-returns-in_err-test-clause-order t c =
 
 pub loops::while_loop-returns-in_err-test-3-clause-order : goal.loops::while_loop-returns-in_err-test-3-clause-order
 loops::while_loop-returns-in_err-test-3-clause-order t c =
-    handed_on _ c.from_residual-in_err-test-3.result _ c.from_residual-in_err-test-3.ensures.1
-    (λ start stands. refused_by _ _ _ c.in_err-test-3.ensures c.scoped.ensures.order start (standing.while_block stands c.in_ok-line.ensures.takes c.in_ok-test.ensures.reads (read_by _ _ _ c.in_ok-test-2.ensures.1 c.take_word-2.ensures.takes) c.looped.ensures))
+    handed_on (FirstFault (standing.statement c.args.at) (state c.args.tokens.now c.args.parser.now) (state c.args.tokens.now c.before_word.new.parser)) c.from_residual-in_err-test-3.result _ c.from_residual-in_err-test-3.ensures.1
+    (before_refused (OnAt (Misses (IsKind (Word word.End)) (state c.args.tokens.now c.scoped-body.new.parser) (state c.args.tokens.now c.before_word.new.parser))) (FirstFault (standing.statement c.args.at) (state c.args.tokens.now c.args.parser.now)) c.args.tokens.now _ _ c.scoped-body.result _ (refused_by _ _ _ c.in_err-test-3.ensures c.before_word.ensures.refuses)
+    (on_err c.scoped-body.result c.scoped-body.ensures.order (λ fault first start stands. first start (standing.while_block stands c.in_ok-line.ensures.takes c.in_ok-test.ensures.reads (read_by _ _ _ c.in_ok-test-2.ensures.1 c.take_word-2.ensures.takes) c.looped.ensures)))
+    (λ body is missed start stands. missing_first _ _ _ _ missed start (standing.after_inner_block (standing.while_block stands c.in_ok-line.ensures.takes c.in_ok-test.ensures.reads (read_by _ _ _ c.in_ok-test-2.ensures.1 c.take_word-2.ensures.takes) c.looped.ensures) (read_by _ _ _ is c.scoped-body.ensures.reads))))
 
 pub loops::while_loop-returns-in_err-line-clause-order : goal.loops::while_loop-returns-in_err-line-clause-order
 loops::while_loop-returns-in_err-line-clause-order t c =
@@ -2259,8 +2315,3 @@ pub loops::while_loop-returns-in_err-test-2-clause-order : goal.loops::while_loo
 loops::while_loop-returns-in_err-test-2-clause-order t c =
     handed_on _ c.from_residual-in_err-test-2.result _ c.from_residual-in_err-test-2.ensures.1
     (λ start stands. missing_first _ _ _ _ (refused_by _ _ _ c.in_err-test-2.ensures c.take_word-2.ensures.misses) start (standing.after_value (standing.while_test stands c.in_ok-line.ensures.takes) c.in_ok-test.ensures.reads))
-
-pub loops::while_loop-returns-in_err-test-4-clause-order : goal.loops::while_loop-returns-in_err-test-4-clause-order
-loops::while_loop-returns-in_err-test-4-clause-order t c =
-    handed_on _ c.from_residual-in_err-test-4.result _ c.from_residual-in_err-test-4.ensures.1
-    (λ start stands. missing_first _ _ _ _ (refused_by _ _ _ c.in_err-test-4.ensures c.take_word-3.ensures.misses) start (standing.after_inner_block (standing.while_block stands c.in_ok-line.ensures.takes c.in_ok-test.ensures.reads (read_by _ _ _ c.in_ok-test-2.ensures.1 c.take_word-2.ensures.takes) c.looped.ensures) (read_by _ _ _ c.in_ok-test-3.ensures.1 c.scoped.ensures.reads)))

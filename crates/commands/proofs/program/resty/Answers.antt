@@ -25,6 +25,9 @@ returns-in_default-clause-complete g c =
     let now = outside (g.F.Files.account c.args.files.now) (g.W.World.book c.args.live.now) (g.O.Sink.account c.args.out.now) in
     complete (texts c.args.words.now) now now status.Usage (returns-in_default-clause-judged g c)
 
+pub work-ending-requires : goal.work-ending-requires
+work-ending-requires g c = λ serves. c.requires (said c.in-Some.command, c.in-Some.ensures.some, serves)
+
 pub returns-clause-ending : goal.returns-clause-ending
 returns-clause-ending g c =
     worked (said c.in-Some.command) c.work-ending.result c.in-Some.ensures.some c.status.ensures c.work-ending.ensures.works.due

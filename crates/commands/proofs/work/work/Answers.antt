@@ -46,6 +46,9 @@ returns-in-Replay-clause-live g c =
     subst (λ m. LeavesBy m g.W.World.same g.W.World.book (said c.args.command.now) (g.F.Files.account c.args.files.now).told (status_of c.replay.result) c.args.live.now c.args.live.now)
     (sym c.in-Replay.is) refl
 
+pub serve_live-requires : goal.serve_live-requires
+serve_live-requires g c = c.requires c.in-Serve.is
+
 pub returns-in-Serve-clause-works : goal.returns-in-Serve-clause-works
 returns-in-Serve-clause-works g c =
     let command = said c.args.command.now in

@@ -1,7 +1,11 @@
-use Rattle.std.proofs.Common.{◌≡◌, ◌∷◌, [], rules}
+use Rattle.std.proofs.Common.{◌≡◌, ◌∷◌, [], ◌∙◌, ap, refl}
 use Rattle.std.proofs.lemmas.Result.{err_from_is_err_and}
 use Rattle.lua_parser.proofs.WholeText.{block_broken, block_refused, block_unfit, token_unfit, too_many_tokens}
 use Rattle.lua_parser_base.proofs.Bodies.{chunk_read}
+use Rattle.lua_parser_base.proofs.Next.{on_memory}
+use Rattle.lua_parser_base.proofs.Scoping.{on_node}
+use Rattle.lua_ast.specs.declared.programs.Program.{Program}
+use Rattle.lua_grammar.specs.Grammar.{IsProgramOf}
 use Rattle.lua_parser_base.specs.States.{state}
 use Rattle.lua_parser.proofs.parser.parse.Goals as goal
 
@@ -10,10 +14,16 @@ returns c =
     let start = c.in_ok-parser.ensures in
     let outer = c.outermost.ensures in
     let whole = c.in_ok-functions.ensures.functions in
-    let files : c.of.result ≡ [] ∷ [] = search rules in
-    let read = chunk_read _ _ _ _ _ _ _ _ _ c.in_ok-body.ensures.reads start.index start.scope.1 outer.depth outer.vararg outer.in_loop c.if-parser-tokens.false c.first_line.ensures
-    whole.1 whole.2 files in
-    record { program = read; whole = c.a_program_is_whole.ensures _ _ read; unfit = tt; limits = tt; complete = tt }
+    let read : (program : Program) → (program.files ≡ [] ∷ []) × (program.functions ≡ c.in_ok-functions.functions) → IsProgramOf c.args.tokens.now program =
+    λ program is. chunk_read _ _ _ _ _ _ _ _ program c.in_ok-body.ensures.reads start.index start.scope.1 outer.depth outer.vararg outer.in_loop c.if-parser-tokens.false c.first_line.ensures
+    whole.1 (ap (λ fs. fs.items) is.1 ∙ whole.2) is.0 in
+    record {
+      program = on_node _ c.program_of.ensures read;
+      whole = on_node _ c.program_of.ensures (λ program is. c.a_program_is_whole.ensures _ _ (read program is));
+      unfit = on_memory _ _ c.program_of.result tt c.program_of.ensures;
+      limits = on_memory _ _ c.program_of.result tt c.program_of.ensures;
+      complete = on_memory _ _ c.program_of.result (λ other. absurd (other refl)) c.program_of.ensures;
+    }
 
 pub returns-in_err-body-clause-complete : goal.returns-in_err-body-clause-complete
 returns-in_err-body-clause-complete c =

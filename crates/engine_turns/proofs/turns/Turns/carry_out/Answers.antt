@@ -1,4 +1,4 @@
-use Rattle.std.proofs.Common.{◌≡◌, ◌∙◌, true, false, None, [], ◌∷◌, ◌++◌, length, refl, ap, arith, length-append, rules}
+use Rattle.std.proofs.Common.{◌≡◌, ◌∙◌, true, false, None, [], ◌∷◌, ◌++◌, length, refl, ap, arith, length-append}
 use Rattle.resty_base.specs.declared.names.StrandId.TheVariants as strand
 use Rattle.resty_world.specs.declared.answers.Logged.TheVariants as logged
 use Rattle.strand_contract.specs.declared.turns.Place.TheVariants as place
@@ -13,7 +13,7 @@ use Rattle.engine_base.proofs.Agendas.{not-longer, all-not-longer}
 use Rattle.engine_turns.specs.Turns.{view_of, seat_left}
 use Rattle.engine_turns.proofs.Seats.{without-same, thread-not-longer, vacant-ends}
 use Rattle.engine_base.proofs.Acts.{busy-ready, busy-offer, busy-closed, busy-logged, standing-gone, near-falls, falls-kept, client-open, nothing-open, gone-closed}
-use Rattle.engine_turns.proofs.Going.{forgot-work}
+use Rattle.engine_turns.proofs.Going.{forgot-work, goes-work, goes-failed, logged-work}
 use Rattle.engine_turns.proofs.turns.Turns.carry_out.Goals as goal
 
 pub returns-in-Ok-clause-carried : goal.returns-in-Ok-clause-carried
@@ -109,8 +109,15 @@ returns-clause-carried g c = λ site rest go y.
 pub returns-in-Gone-clause-works : goal.returns-in-Gone-clause-works
 returns-in-Gone-clause-works g c = forgot-work g.W.World.same g.W.World.book _ _ _ (strand.Conn c.args.connection) c.forget.ensures.same c.forget.ensures.forgets
 
+pub returns-in-Done-clause-works : goal.returns-in-Done-clause-works
+returns-in-Done-clause-works g c =
+    let logs = c.in-Done.ensures.logs in
+    goes-work g.W.World.same g.W.World.book _ _ _ _ c.in-Done.ensures.same (logged-work (strand.Conn c.args.connection) _) logs.history logs.faults logs.course.port
+
 pub returns-in-Failed-clause-works : goal.returns-in-Failed-clause-works
-returns-in-Failed-clause-works g c = search rules
+returns-in-Failed-clause-works g c =
+    let logs = c.in-Failed.ensures.logs in
+    goes-failed g.W.World.same g.W.World.book _ _ _ (strand.Conn c.args.connection) _ c.in-Failed.ensures.same logs.history logs.faults logs.course.port
 
 pub returns-in-Ok-clause-work : goal.returns-in-Ok-clause-work
 returns-in-Ok-clause-work g c =

@@ -11,10 +11,10 @@ pub returns-clause-left : goal.returns-clause-left
 returns-clause-left g c =
     let w = is-answered c.requires.0 c.requires.1 c.requires.2 c.args._answer c.requires.4 c.requires.5 in
     works-falls (site_seen g.M.Machine.life c.args.site.now) c.args.now.0 c.working.result _ c.replace-work.result c.args.self.now.work c.args.self.now.has_client (cc) (cc)
-    (λ over. w.work (sym c.requires.3.0 ∙ over)) c.working.ensures.acts c.working.ensures.said
+    (λ over. w.work (sym c.requires.3.0 ∙ over)) c.working.ensures.does c.working.ensures.asks
 
 pub returns-clause-turn : goal.returns-clause-turn
 returns-clause-turn g c =
     let took = works-took (site_seen g.M.Machine.life c.args.site.now) c.args.now.0 c.working.result _ c.replace-work.result c.args.self.now.work c.args.self.now.has_client (cc) (cc)
-    c.working.ensures.acts c.working.ensures.said in
+    c.working.ensures.does c.working.ensures.asks in
     IfOk-weaker c.working.result _ _ (λ turn h b r x stood holds is. h (entered (Did x) b) r stood) took

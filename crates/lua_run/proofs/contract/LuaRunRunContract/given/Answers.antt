@@ -1,6 +1,7 @@
-use Rattle.std.proofs.Common.{◌≡◌, ◌∙◌, sym, subst, inl, inr}
+use Rattle.std.proofs.Common.{◌≡◌, true, false, ◌∙◌, sym, ap, subst, inl, inr}
 use Rattle.run_contract.specs.declared.turns.RunSeen.{RunSeen}
 use Rattle.run_contract.specs.declared.turns.RunSeen.TheVariants as seen
+use Rattle.run_contract.specs.Calls.{is_own_turn}
 use Rattle.run_contract.specs.Conditions.{MayCome}
 use Rattle.lua_run.specs.Runs.{lua_plan}
 use Rattle.lua_run.specs.Views.{site_seen}
@@ -21,10 +22,10 @@ returns-clause-left g c =
       | in-Run w ↦ rw (w.self-is, w.result-is) (λ own.
           works-falls site c.args.now.0 w.working.result _ w.replace-work.result c.args.self.now.work c.args.self.now.has_client (cc) (cc)
           (λ over. (runs-once site c.args.now.0 w.in-Run.field-0 c.requires.0 c.requires.1 c.requires.3 (may _ w.in-Run.is)).0 (sym c.requires.2.0 ∙ over))
-          w.working.ensures.acts w.working.ensures.said)
+          w.working.ensures.does w.working.ensures.asks)
       | in-ClientGone w ↦ rw (w.self-is, w.result-is) (λ own.
           gone-falls w.silent.result c.args.self.now.work c.args.self.now.has_client (c.requires.2.1 ∙ (may _ w.in-ClientGone.is).1)
-          w.silent.ensures.acts w.silent.ensures.said)
+          w.silent.ensures.does w.silent.ensures.asks)
       | in-Due w ↦ λ own. elim w.in-Due.is [
         | inl x ↦ absurd (other (seen.Due x.0) x.1 tt)
         | inr y ↦ elim y [
@@ -33,7 +34,13 @@ returns-clause-left g c =
             | inl x ↦ absurd (other (seen.BodyRefused x.0) x.1 tt)
             | inr y ↦ elim y [
               | inl x ↦ absurd (other seen.AllTaken x tt)
-              | inr x ↦ absurd (other (seen.Sock x.0 x.1) x.2 tt)
+              | inr y ↦ elim y [
+                | inl x ↦ absurd (other seen.NotYet x tt)
+                | inr y ↦ elim y [
+                  | inl x ↦ absurd (let e : false ≡ true = sym (ap is_own_turn x) ∙ own in cc)
+                  | inr x ↦ absurd (other (seen.Sock x.0 x.1) x.2 tt)
+                ]
+              ]
             ]
           ]
         ]
