@@ -1,5 +1,5 @@
 -- The runs of a site of Lua: each answers its request with one reply, once its thread runs, or at once where no handler answers.
-use Rattle.std.specs.Prelude.{◌≡◌, ◌≢◌, ℕ, ◌+◌, ◌≤◌, Bool, true, false, List, [], ◌∷◌, ◌++◌, length, slice_get, Option, Some, None, IfSome, if◌then◌else◌}
+use Rattle.std.specs.Prelude.{◌≡◌, ◌≢◌, ℕ, ◌≤◌, Bool, true, false, List, [], ◌∷◌, ◌++◌, length, slice_get, Option, Some, None, IfSome, if◌then◌else◌}
 use Rattle.std.specs.Option.{option_map_or}
 use Rattle.strand_contract.specs.declared.turns.Place.TheVariants as place
 use Rattle.strand_plans.specs.Ledgers.{Ledger, has}
@@ -47,7 +47,7 @@ lua_works site now r = record { does = work_deeds site now r.work; asks = Nothin
 abbrev pub silent : {J : Type 0} → Run → Turn J Run
 silent r = record { does = []; asks = Nothing; run = r }
 
--- that the client sends no more changes nothing
+-- its thread does the work. It notes that its client is gone; that the client sends no more, and all else that it is told, changes nothing
 abbrev pub lua_turn : {J : Type 0} → Site → ℕ → RunSeen → Ledger J → Run → Turn J Run
 lua_turn site now (seen.Run k) b r = lua_works site now r
 lua_turn site now seen.ClientGone b r = silent (record r { client = false })
@@ -57,8 +57,8 @@ lua_turn site now s b r = silent r
 abbrev pub queued : {J : Type 0} → Run → Turn J Run
 queued r = record { does = Ready 0 ∷ []; asks = Nothing; run = r }
 
--- a handler has a thread; where none answers, the reply is made at once
-abbrev pub begins_by : {J : Type 0} → (has_handler : Bool) → Site → ℕ → Run → Turn J Run
+-- a handler gets a thread; where none answers the request, the reply is made at once
+abbrev pub begins_by : {J : Type 0} → (handled : Bool) → Site → ℕ → Run → Turn J Run
 begins_by true site now r = queued r
 begins_by false site now r = lua_works site now r
 
@@ -107,10 +107,7 @@ pub record LuaHolds {J : Type 0} (b : Ledger J) (r : Run) : Type 0 where
   pub no_socket : (k : ℕ) → has (place.Sock k) b.opened ≡ false
   pub unused : (k : ℕ) → b.count ≤ k → IsUnused (place.Sock k) b
 
--- how much it can do: as it runs, a line to write and three things to say in a turn; and that its client goes
+-- how much it can do: as it runs, a line to write and three things to say in a turn
 abbrev pub left_of_work : Work → ℕ
 left_of_work Over = 0
 left_of_work work = 5
-
-abbrev pub left_of : Run → ℕ
-left_of r = left_of_work r.work + (if r.client then 1 else 0)
