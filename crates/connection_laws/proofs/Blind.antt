@@ -5,7 +5,6 @@ use Rattle.resty_base.specs.declared.names.Ms.{Ms}
 use Rattle.http_in.specs.declared.framing.BodyKind.TheVariants as kind
 use Rattle.strand_contract.specs.declared.turns.Place.{Place}
 use Rattle.strand_contract.specs.declared.turns.Place.TheVariants as place
-use Rattle.strand_contract.specs.declared.turns.Act.{Act}
 use Rattle.strand_contract.specs.declared.turns.Act.TheVariants as act
 use Rattle.strand_contract.specs.Actions.{Action, Dict, same_place}
 use Rattle.strand_contract.specs.Alone.{disarmed, without}
@@ -28,7 +27,7 @@ use Rattle.run_contract.specs.Stored.{Stored, stored_plan, stored_turn, stored_a
 use Rattle.connection_plan.specs.Examples.{Echo, Fresh, Asked, Reading, Replied, Left, echo_plan, echo_turn, request, to}
 use Rattle.connection_plan.specs.Recalls.{recalls_plan}
 use Rattle.connection_laws.specs.Own.{IsLive, SameOwn, SameTurn, MindsItsOwn, but_offers}
-use Rattle.connection_laws.specs.Examples.{NeverLooks}
+use Rattle.connection_laws.specs.Examples.{NeverLooks, tells_in_a_line, tells_in_a_question}
 use Rattle.connection_laws.proofs.Owns.{own-disarms, still-open}
 
 own-armed : (n at : ℕ) (ds : List (ℕ × ℕ)) → nat_lt n 2 ≡ false → own_deadlines (ds ++ (n, at) ∷ []) ≡ own_deadlines ds ++ (n, at) ∷ []
@@ -303,17 +302,29 @@ echo-never-looks reads = record {
   answers = λ now x b c r. refl;
 }
 
--- ---- and one that doesn't
+-- ---- and those that don't
 
 -- a ledger after which a byte was sent to the client
-after_byte : {J : Type 0} → Ledger J
+abbrev after_byte : {J : Type 0} → Ledger J
 after_byte = record empty_ledger { sent = λ q. if same_place q place.Client then 1 ∷ [] else [] }
 
+same-but-byte : {J : Type 0} → SameOwn {J = J} empty_ledger after_byte
+same-but-byte = record { threads = refl; armed = refl; count = refl; opened = λ k. refl; sockets = λ k l. record { sent = refl; taken = refl; put_off = refl } }
+
 pub recalling-does-not : {J : Type 0} → MindsItsOwn {J = J} recalls_plan → ⊥
-unfolding after_byte
 recalling-does-not {J} h =
-    let same : SameOwn {J = J} empty_ledger after_byte = record { threads = refl; armed = refl; count = refl; opened = λ k. refl; sockets = λ k l. record { sent = refl; taken = refl; put_off = refl } } in
     let words : List ℕ → List (RunAct J) = λ bytes. made.Say (said.Send bytes) ∷ made.Say (said.Ended false) ∷ made.Say said.Over ∷ [] in
-    let e : words (1 ∷ []) ≡ words (1 ∷ 1 ∷ []) =
-    (h.begins 0 (request kind.Nothing false [] []) (to []) empty_ledger after_byte same).made in
+    let e : words (1 ∷ []) ≡ words (1 ∷ 1 ∷ []) = (h.begins 0 (request kind.Nothing false [] []) (to []) empty_ledger after_byte same-but-byte).made in
+    cc
+
+pub telling-in-a-line-does-not : {J : Type 0} → MindsItsOwn {J = J} tells_in_a_line → ⊥
+telling-in-a-line-does-not {J} h =
+    let acts : List ℕ → List (RunAct J) = λ line. made.Act (act.Log line) ∷ made.Act (act.Ready 0) ∷ [] in
+    let e : acts [] ≡ acts (1 ∷ []) = (h.begins 0 (request kind.Nothing false [] []) (to []) empty_ledger after_byte same-but-byte).made in
+    cc
+
+pub telling-in-a-question-does-not : {J : Type 0} → MindsItsOwn {J = J} tells_in_a_question → ⊥
+telling-in-a-question-does-not {J} h =
+    let asks : List ℕ → List (RunAct J) = λ key. made.Act (act.Take key) ∷ [] in
+    let e : asks [] ≡ asks (1 ∷ []) = (h.begins 0 (request kind.Nothing false [] []) (to []) empty_ledger after_byte same-but-byte).made in
     cc

@@ -1,7 +1,6 @@
 -- Whatever comes to a connection, every reply stays its run's own.
-use Rattle.std.proofs.Common.{◌≡◌, ℕ, zero, suc, ◌≤◌, Bool, true, false, ◌&&◌, ◌||◌, List, [], ◌∷◌, ◌++◌, length, Option, Some, None, if◌then◌else◌, inl, inr, refl, sym, ap, ◌∙◌, subst, arith, append-nil}
+use Rattle.std.proofs.Common.{◌≡◌, ℕ, zero, suc, ◌≤◌, Bool, true, false, ◌&&◌, ◌||◌, List, [], ◌∷◌, ◌++◌, length, Some, None, if◌then◌else◌, inl, inr, refl, sym, ap, ◌∙◌, subst, arith, append-nil}
 use Rattle.client_line.specs.declared.requests.LineOut.TheVariants as out
-use Rattle.client_line.specs.Records.{Came}
 use Rattle.client_line.specs.Lines.{settled, done}
 use Rattle.client_line.specs.Feeding.{Fed, fed}
 use Rattle.connection_plan.proofs.Bodies.{fed-in-step}
@@ -44,17 +43,16 @@ use Rattle.connection_plan.specs.Connections.{came_at, ends_at, to_run, is_due, 
 use Rattle.connection_plan.specs.Connections as turns
 use Rattle.connection_plan.specs.Conditions.{AgreesWithin, Agrees, Knows}
 use Rattle.connection_plan.proofs.Alike.{alike-refl, sent-alike, client-alike, due-alike, still-alike, AtClient}
-use Rattle.strand_contract.specs.Alone.{is_some_left}
 use Rattle.connection_plan.proofs.Meets.{taken-of}
 use Rattle.connection_plan.proofs.Stays.{within-alike, within-of, answered-of, settled-so}
 use Rattle.connection_laws.specs.Own.{SameOwn, MindsItsOwn}
-use Rattle.connection_laws.specs.Alone.{Alone, News, Seen, Given, begins_job, learned, own_ledger, MayWaitForBody}
-use Rattle.connection_laws.specs.Replies.{told_by, IsToldBy, IsAnsweredBy, IsNews, IsJobNews, IsUpTo, HasLearned, has_client}
+use Rattle.connection_laws.specs.Alone.{Alone, News, Seen, Given, begins_job, learned, own_ledger}
+use Rattle.connection_laws.specs.Replies.{told_by, IsToldBy, IsAnsweredBy, IsNews, IsJobNews, IsUpTo, has_client}
 use Rattle.connection_laws.proofs.Leaving.{Left, here_at, left}
 use Rattle.connection_laws.proofs.Places.{Placed, BodyAt, body-kept, settled-placed, fed-body, fed-kept, fed-placed}
 use Rattle.connection_laws.proofs.Owns.{blank-same, run-same, due-same, bytes-same, ended-same, broken-same, dialled-same, refused-same, ready-same, later-same, lost-same, took-same, dial-same, take-same, keep-same, dict-same, timer-same}
-use Rattle.connection_laws.proofs.Saying.{left-of, right-of, IsWaited}
-use Rattle.connection_laws.proofs.Going.{starts_job, here, Counted, LineAt, Own, Wholes, Logged, OwnLines, Reads, OfRequest, OfJob, Origin, Request, Job, Goes, Good, Fine, IsMoved, good-busy, goes-moved, good-alike, Takes, turn-good, LearnsOf, Learns, tell-good, answer-good}
+use Rattle.connection_laws.proofs.Saying.{left-of}
+use Rattle.connection_laws.proofs.Going.{starts_job, Counted, LineAt, Wholes, Logged, Origin, Request, Job, Goes, Good, Fine, good-busy, good-alike, Takes, turn-good, LearnsOf, Learns, tell-good, answer-good}
 use Rattle.connection_laws.proofs.Replying.{IsIdle, not-busy, idle-at, finish-good, ends-good, begins-good, lose-fine, heard-good, within-so, waits-good, read-good, settle-fine, done-fine}
 
 -- the bytes that an action brings of the client

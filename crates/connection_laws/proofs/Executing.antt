@@ -7,9 +7,9 @@ use Rattle.strand_contract.specs.Actions.{LocalAction, Told, Did, Began, Bytes, 
 use Rattle.strand_contract.specs.Actions.{Put, Later, Lost, Close, Log, Dict, Take, Dial, Keep, Timer, Dropped, Run, Offer, Due, Halted, Gone}
 use Rattle.strand_contract.specs.Alone.{moment, socket_count, lives, was_dropped, todo, IsExecution}
 use Rattle.strand_plans.specs.Ledgers.{Ledger, entered}
-use Rattle.strand_plans.specs.Moves.{Move, Done, State}
+use Rattle.strand_plans.specs.Moves.{Move, Done}
 use Rattle.strand_plans.specs.Turns.{Comes}
-use Rattle.strand_plans.specs.Plans.{state_of, move_of, stepped}
+use Rattle.strand_plans.specs.Plans.{state_of, move_of}
 use Rattle.strand_plans.proofs.Executions.{Agrees, agrees, comes}
 use Rattle.strand_plans.proofs.Ledgers.{count-is}
 use Rattle.strand_plans.proofs.PlanLaws.{lived, busy}
@@ -28,7 +28,7 @@ use Rattle.connection_laws.specs.Own.{SameOwn, MindsItsOwn}
 use Rattle.connection_laws.specs.Alone.{Alone, News, learned, begins_job}
 use Rattle.connection_laws.specs.Replies.{IsUpTo, HaveWholeReplies, HaveOwnReplies, HaveWholeLines, HaveOwnLines, IsJobAlone, lines_by}
 use Rattle.connection_laws.proofs.Leaving.{Left, here_at, left, left-is}
-use Rattle.connection_laws.proofs.Going.{begins_a_job, starts_job, performs-count, up-to-later, learned-later, job-learned-later, LineAt, Own, Whole, OwnLines, WholeLines, Wholes, JobLog, Logged, OfRequest, OfJob, Origin, Request, Job, Goes, Good, good-idle, good-alike, job-logged}
+use Rattle.connection_laws.proofs.Going.{begins_a_job, starts_job, performs-count, up-to-later, learned-later, job-learned-later, LineAt, Own, Whole, OwnLines, WholeLines, Wholes, Logged, Origin, Request, Job, Good, good-idle, good-alike}
 use Rattle.connection_laws.proofs.Coming.{is_first, bytes-come, turned, began-good, step-good}
 
 -- the action with which all began

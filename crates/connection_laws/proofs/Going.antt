@@ -1,5 +1,5 @@
 -- A run that goes on has done what it does alone, told the same; and so it is after each of its turns.
-use Rattle.std.proofs.Common.{◌≡◌, ℕ, Bool, true, false, List, [], ◌∷◌, ◌++◌, Option, Some, None, if◌then◌else◌, refl, sym, ap, ◌∙◌, subst, append_assoc, append-nil, inl, inr, ◌⊎◌}
+use Rattle.std.proofs.Common.{◌≡◌, ℕ, Bool, true, false, List, [], ◌∷◌, ◌++◌, Option, Some, None, if◌then◌else◌, refl, sym, ap, ◌∙◌, subst, append_assoc, inl, inr, ◌⊎◌}
 use Rattle.std.specs.Prelude.{◌&&◌, is_some, not}
 use Rattle.uri_args.specs.declared.targets.Target.{Target}
 use Rattle.http_in.specs.declared.heads.Head.{Head}
@@ -29,7 +29,7 @@ use Rattle.run_contract.specs.declared.turns.Said.{Said}
 use Rattle.run_contract.specs.declared.turns.Said.TheVariants as said
 use Rattle.run_contract.specs.Deeds as deed
 use Rattle.run_contract.specs.Deeds.{Deed, Say, Turn, Asks, Nothing, Outside, Within, made_if, made_by, made_after, made_asking, acts_made, ledger_by, ledger_after, ledger_asking, taken, says_over}
-use Rattle.run_contract.specs.Runs.{Waits, waits_at_first, waits_told, waits_longer, waits_did, waits_after}
+use Rattle.run_contract.specs.Runs.{Waits, waits_told, waits_longer, waits_did}
 use Rattle.run_contract.specs.Alike.{AreAlike}
 use Rattle.run_contract.specs.Conditions.{IsRun, MayCome, Leaves, entered_as}
 use Rattle.connection_plan.specs.Clients.{Stage, Client, Exchange, exchange, closes_after}
@@ -39,13 +39,13 @@ use Rattle.connection_plan.specs.Turns.{is_there, asks_then, run_turn, tell}
 use Rattle.connection_plan.specs.InStep.{IsInStep}
 use Rattle.connection_plan.specs.Conditions.{AgreesWithin}
 use Rattle.connection_plan.specs.Examples.{request, to}
-use Rattle.connection_plan.proofs.Lifted.{SameRun, same-run-refl}
+use Rattle.connection_plan.proofs.Lifted.{same-run-refl}
 use Rattle.connection_plan.proofs.Steps.{stage_did}
 use Rattle.connection_plan.proofs.OwnMoves.{deeds-leave-client}
-use Rattle.connection_plan.proofs.Stays.{Known, IsDone, IsAfter, goes-on, stage-over}
+use Rattle.connection_plan.proofs.Stays.{IsDone, IsAfter, goes-on, stage-over}
 use Rattle.connection_laws.specs.Own.{SameOwn, SameTurn, MindsItsOwn, but_offers}
 use Rattle.connection_laws.specs.Alone.{Beginning, News, Seen, Given, Alone, words_of, lines_of, begins, begins_job, learned, alone, after_turn, is_over, bytes_said, let_first, MayWaitForBody}
-use Rattle.connection_laws.specs.Replies.{IsNews, IsJobNews, IsUpTo, HaveLearned, HasLearned, has_client, IsSaidAlone, IsOwnReply, IsWholeReply, HaveWholeReplies, HaveOwnReplies, IsOwnLog, IsWholeLog, IsInTwo, HaveWholeLines, HaveOwnLines}
+use Rattle.connection_laws.specs.Replies.{IsNews, IsJobNews, IsUpTo, HaveLearned, HasLearned, has_client, IsSaidAlone, IsOwnReply, IsWholeReply, HaveWholeReplies, HaveOwnReplies, IsOwnLog, IsWholeLog, HaveWholeLines, HaveOwnLines}
 use Rattle.connection_laws.proofs.Owns.{same-alike, same-asking}
 use Rattle.connection_laws.proofs.Places.{Placed, BodyAt, IsKept, body-kept}
 use Rattle.connection_laws.proofs.Leaving.{Left, here_at, left}

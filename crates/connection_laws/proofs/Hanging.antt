@@ -25,13 +25,13 @@ use Rattle.strand_contract.specs.declared.turns.Act.{Act}
 use Rattle.strand_contract.specs.declared.turns.Act.TheVariants as act
 use Rattle.strand_contract.specs.Actions.{Action, LocalAction, Told, Did, same_place, Began, Bytes, Ended, Broken, Ready, Dialled, Refused}
 use Rattle.strand_contract.specs.Actions.{Put, Later, Lost, Close, Log, Dict, Take, Dial, Keep, Timer, Dropped, Run, Offer, Due, Halted, Gone}
-use Rattle.strand_contract.specs.Alone.{moment, taken, is_some_left, Enabled, IsExecution}
+use Rattle.strand_contract.specs.Alone.{moment, is_some_left, Enabled, IsExecution}
 use Rattle.strand_plans.specs.Questions.{Question, asking_if}
 use Rattle.strand_plans.specs.Questions as question
 use Rattle.strand_plans.specs.Ledgers.{Ledger, has, has_number, numbers, left_at, wants_offer, entered}
 use Rattle.strand_plans.specs.Moves.{Move, Done, Unready, Send, Arm, Cancel, HangUp, Set, Look, Ask, End, State, with_sent, with_offer, with_thread, without_thread, with_deadline, without_deadline, hung_up, asked_of, ended, ending, act_if, sends, perform}
 use Rattle.strand_plans.specs.Moves as move
-use Rattle.strand_plans.specs.Plans.{move_of, state_of, unborn_state}
+use Rattle.strand_plans.specs.Plans.{move_of, state_of}
 use Rattle.strand_plans.proofs.Places.{has-without, has-append}
 use Rattle.strand_plans.proofs.Ledgers.{taken-is}
 use Rattle.run_contract.specs.declared.turns.RunSeen.{RunSeen}
@@ -49,7 +49,7 @@ use Rattle.connection_plan.specs.Timers.{number_of, time_of, later}
 use Rattle.connection_plan.specs.Timers as timer
 use Rattle.connection_plan.specs.Lifts.{lifted}
 use Rattle.connection_plan.specs.Turns.{is_there, is_all_taken, is_to_close, change, finish, send, begin_timer, end_timer, continue_reply, let_send, may_come, wait_more, waits_of, await_body, says, asks_then, run_turn, tell, lose_at, lose}
-use Rattle.connection_plan.specs.Turns.{begin, close_if_taken, refuse, wait_for, heard_by, heard, next, body_told, tell_body, ask_body, answer_body, answer_asked, waiting, busy_at, busy, flush, settled_at, tells, settle_for, settle}
+use Rattle.connection_plan.specs.Turns.{begin, close_if_taken, refuse, wait_for, heard_by, heard, next, body_told, tell_body, ask_body, answer_body, busy_at, busy, flush, settled_at, tells, settle_for, settle}
 use Rattle.connection_plan.specs.Connections.{came_at, ends_at, to_run, is_due, connection_plan, connection_behavior}
 use Rattle.connection_plan.specs.Connections as turns
 use Rattle.connection_plan.proofs.OwnMoves.{deed-leaves-client}

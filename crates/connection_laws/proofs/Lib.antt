@@ -10,3 +10,4 @@ pub mod Said
 pub mod Blind
 pub mod Hanging
 pub mod Numbering
+pub mod Written

@@ -1,12 +1,12 @@
 -- Two connections whose beginnings differ in their number alone do the same.
-use Rattle.std.proofs.Common.{◌≡◌, ℕ, Bool, List, [], ◌∷◌, ◌++◌, refl, sym, ap, ◌∙◌}
+use Rattle.std.proofs.Common.{◌≡◌, ℕ, Bool, List, [], ◌∷◌, ◌++◌, refl, ap, ◌∙◌}
 use Rattle.std.specs.Prelude.{max}
 use Rattle.strand_contract.specs.declared.turns.Start.{Start}
 use Rattle.strand_contract.specs.declared.turns.Start.TheVariants as start
 use Rattle.strand_contract.specs.Actions.{Moment, LocalAction, Told, Did, Began}
 use Rattle.strand_contract.specs.Alone.{moment}
 use Rattle.strand_plans.specs.Moves.{State, Performed}
-use Rattle.strand_plans.specs.Plans.{stepped, state_of, acts_of, unborn_state}
+use Rattle.strand_plans.specs.Plans.{stepped, state_of, acts_of}
 use Rattle.connection_plan.specs.Services.{Service, Both}
 use Rattle.connection_plan.specs.Connections.{connection_plan, connection_behavior}
 use Rattle.connection_laws.specs.Numbers.{DoTheSame}

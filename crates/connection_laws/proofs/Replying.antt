@@ -33,13 +33,13 @@ use Rattle.run_contract.specs.declared.turns.Asking.TheVariants as asking
 use Rattle.run_contract.specs.declared.turns.Said.{Said}
 use Rattle.run_contract.specs.Runs.{waits_at_first}
 use Rattle.run_contract.specs.Alike.{AreAlike}
-use Rattle.run_contract.specs.Conditions.{IsBlank, IsRun, MayCome, MayHear, asks_body, asks_taken, entered_as}
+use Rattle.run_contract.specs.Conditions.{IsBlank, IsRun, MayCome, MayHear, asks_body, entered_as}
 use Rattle.connection_plan.specs.Clients.{Stage, Client, Exchange, exchange, with_more, with_request, with_refusal, closes_after}
 use Rattle.connection_plan.specs.Clients as stage
 use Rattle.connection_plan.specs.Services.{Service, Both}
 use Rattle.connection_plan.specs.Timers.{number_of, time_of, later}
 use Rattle.connection_plan.specs.Timers as timer
-use Rattle.connection_plan.specs.Turns.{continue_reply, is_there, is_all_taken, is_to_close, change, finish, begin_timer, end_timer, tell, lose_at, lose, begin, close_if_taken, refuse, wait_for, heard_by, heard, next, body_told, wait_more, tell_body, ask_body, answer_body, answer_asked, waiting, busy_at, busy, flush, settled_at, tells, settle_for, settle}
+use Rattle.connection_plan.specs.Turns.{continue_reply, is_there, is_all_taken, is_to_close, change, finish, begin_timer, end_timer, tell, lose_at, lose, begin, close_if_taken, refuse, wait_for, heard_by, heard, next, body_told, wait_more, tell_body, ask_body, answer_body, waiting, busy_at, busy, flush, settled_at, tells, settle_for, settle}
 use Rattle.connection_plan.proofs.Alike.{alike-refl, alike-trans, armed-alike, cancelled-alike, hung-up-alike, blank-alike}
 use Rattle.connection_plan.specs.Conditions.{AgreesWithin}
 use Rattle.connection_plan.proofs.Steps.{own-number}
@@ -52,7 +52,7 @@ use Rattle.connection_laws.proofs.Leaving.{Left, here_at, left}
 use Rattle.connection_laws.proofs.Saying.{Says, left-of, IsWaited, wait-leads}
 use Rattle.connection_laws.proofs.Places.{Placed, BodyAt, IsKept, settled-placed, begun-placed, begun-body, waits-placed, asked-body, asked-placed, told-own, told-fault}
 use Rattle.connection_laws.proofs.Owns.{blank-same}
-use Rattle.connection_laws.proofs.Going.{here, up-to-later, Counted, LineAt, Own, Whole, WholeLines, Wholes, Logged, OwnLines, whole-owns, whole-logs, Reads, Newest, OfRequest, OfJob, Origin, Request, Job, Goes, Good, Fine, IsMoved, ledger-moved, goes-moved, good-idle, good-busy, good-alike, Takes, turn-good, LearnsOf, Learns, tell-good}
+use Rattle.connection_laws.proofs.Going.{here, up-to-later, Counted, LineAt, Own, Wholes, Logged, OwnLines, whole-owns, whole-logs, Reads, Newest, Origin, Request, Job, Good, Fine, goes-moved, good-idle, good-busy, good-alike, Takes, turn-good, LearnsOf, Learns, tell-good}
 
 -- a stage at which no run goes on
 abbrev pub IsIdle : Stage → Type 0

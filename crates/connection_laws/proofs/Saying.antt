@@ -1,5 +1,5 @@
 -- What a run says becomes the reply to its request, while its client is there; nothing of it does once that is gone; and its lines are logged in either case.
-use Rattle.std.proofs.Common.{inl, inr, ◌⊎◌, ◌≡◌, ℕ, ◌&&◌, ◌||◌, Bool, true, false, List, [], ◌∷◌, ◌++◌, if◌then◌else◌, refl, sym, ap, ◌∙◌, subst, append-nil, append_assoc}
+use Rattle.std.proofs.Common.{inl, inr, ◌⊎◌, ◌≡◌, ℕ, ◌&&◌, Bool, true, false, List, [], ◌∷◌, ◌++◌, if◌then◌else◌, refl, sym, ap, ◌∙◌, subst, append-nil, append_assoc}
 use Rattle.uri_args.specs.declared.targets.Target.{Target}
 use Rattle.http_in.specs.declared.heads.Head.{Head}
 use Rattle.client_line.specs.declared.requests.LineOut.TheVariants as out
@@ -18,7 +18,7 @@ use Rattle.connection_plan.specs.Services.{Service, Both}
 use Rattle.connection_plan.specs.Timers.{Timer, number_of, time_of, later}
 use Rattle.connection_plan.specs.Timers as timer
 use Rattle.connection_plan.specs.Lifts.{lifted}
-use Rattle.connection_plan.specs.Turns.{is_there, change, send, begin_timer, end_timer, continue_reply, let_send, may_come, wait_more, says}
+use Rattle.connection_plan.specs.Turns.{is_there, change, send, begin_timer, continue_reply, let_send, wait_more, says}
 use Rattle.connection_plan.proofs.Lifted.{SameRun, same-run-refl, same-run-trans, deed-same}
 use Rattle.connection_plan.proofs.Steps.{stage_word, stage_did, own-number, armed-same, cancelled-same, sent-to-client-same}
 use Rattle.connection_plan.proofs.OwnMoves.{deed-leaves-client}

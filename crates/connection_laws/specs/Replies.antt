@@ -5,10 +5,9 @@ use Rattle.http_in.specs.declared.heads.Head.{Head}
 use Rattle.client_line.specs.declared.requests.LineOut.{LineOut}
 use Rattle.client_line.specs.declared.requests.LineOut.TheVariants as out
 use Rattle.strand_contract.specs.declared.turns.Place.TheVariants as place
-use Rattle.strand_contract.specs.declared.turns.Start.TheVariants as start
 use Rattle.strand_contract.specs.declared.turns.Act.{Act}
 use Rattle.strand_contract.specs.declared.turns.Act.TheVariants as act
-use Rattle.strand_contract.specs.Actions.{Action, LocalAction, Did, Began, Bytes, Ended, Broken, Ready, Dialled, Refused, Put, Later, Lost, Run, Due}
+use Rattle.strand_contract.specs.Actions.{Action, LocalAction, Did, Bytes, Ended, Broken, Ready, Dialled, Refused, Put, Later, Lost, Log, Run, Due}
 use Rattle.strand_contract.specs.Behaviors.{Behavior}
 use Rattle.strand_contract.specs.Alone.{moment, socket_count}
 use Rattle.strand_plans.specs.Ledgers.{Ledger}
@@ -95,6 +94,12 @@ lines_in (a ∷ acts) = lines_in acts
 abbrev pub lines_by : {J : Type 0} → Behavior J → List (LocalAction J) → List (List ℕ)
 lines_by b [] = []
 lines_by b (a ∷ es) = lines_by b es ++ lines_in (b.acts (a ∷ es))
+
+-- the entries of the log that it made
+abbrev pub lines_written : {J : Type 0} → List (LocalAction J) → List (List ℕ)
+lines_written [] = []
+lines_written (Did (Log line done) ∷ es) = lines_written es ++ line ∷ []
+lines_written (a ∷ es) = lines_written es
 
 module _ {J R : Type 0} (es : List (LocalAction J)) (site : Service J R) where
   -- a run answers the request: alone it began at a moment, and learned what happened

@@ -6,7 +6,9 @@ ghost use Rattle.resty_base.specs.declared.dictionary.DictCall.TheVariants as di
 ghost use Rattle.uri_args.specs.declared.targets.Target.{Target};
 ghost use Rattle.http_in.specs.declared.heads.Head.{Head};
 ghost use Rattle.strand_contract.specs.declared.turns.Answer.TheVariants as answer;
-ghost use Rattle.strand_contract.specs.Alone.{IsExecution};
+ghost use Rattle.strand_contract.specs.Behaviors.{Behavior};
+ghost use Rattle.strand_contract.specs.Alone.{was_dropped, todo, IsPrefixOf, IsExecution};
+ghost use Rattle.strand_contract.specs.Laws.{IsQuiet};
 ghost use Rattle.strand_contract.specs.declared.turns.Start.TheVariants as start;
 ghost use Rattle.strand_contract.specs.Actions.{LocalAction, Did, Began, Dict};
 ghost use Rattle.strand_plans.specs.Ledgers.{Ledger, left_at};
@@ -25,11 +27,11 @@ ghost use Rattle.connection_plan.specs.Examples.{echo_plan, echo_site};
 ghost use Rattle.connection_plan.specs.Recalls.{recalls_plan};
 ghost use Rattle.connection_laws.specs.Own.{MindsItsOwn};
 ghost use Rattle.connection_laws.specs.Alone.{Beginning, Seen, Given, let_first, reply_alone};
-ghost use Rattle.connection_laws.specs.Examples.{NeverLooks};
+ghost use Rattle.connection_laws.specs.Examples.{NeverLooks, tells_in_a_line, tells_in_a_question};
 ghost use Rattle.connection_laws.specs.Taken.{TookAllBefore};
 ghost use Rattle.connection_laws.specs.Between.{IsBetweenRequests};
 ghost use Rattle.connection_laws.specs.Numbers.{DoTheSame};
-ghost use Rattle.connection_laws.specs.Replies.{lines_by, IsSaidAlone, HaveOwnReplies, HaveOwnLines, IsJobAlone, LearnTheSame};
+ghost use Rattle.connection_laws.specs.Replies.{lines_by, lines_written, IsSaidAlone, HaveOwnReplies, HaveOwnLines, IsJobAlone, LearnTheSame};
 
 /// A site whose runs are lawful and mind their own.
 pub trait Minding {
@@ -61,12 +63,20 @@ pub fn replies_of_the_rows_are_said_alone<J>()
         → HaveOwnReplies es (echo_site reads) (state_of (connection_plan {J = J} (echo_site reads)) es).inner.client.exchanges }
 {}
 
-/// In each execution that begins with a client the lines that are logged are those of its runs, in order, each run's as it logs them alone: no run logs
-/// what another's request, its bytes or its reply would tell.
+/// In each execution that begins with a client the lines that its turns had logged are those of its runs, in order, each run's as it logs them alone; and a
+/// refused head logs none.
 pub fn lines_are_logged_alone<S: Minding>()
     ensures { (es : List (LocalAction S.Job)) (now client : ℕ) → let all = es ++ Did (Began now (start.Client client)) ∷ [] in
         IsExecution (connection_behavior S.service) all
         → HaveOwnLines all S.service (state_of (connection_plan S.service) all).inner.client.exchanges (lines_by (connection_behavior S.service) all) }
+{}
+
+/// The log entries of a strand are the first of the lines that its turns had logged, in order, and all of them where nothing is left to be done and it wasn't
+/// given up.
+pub fn lines_that_are_written<J>()
+    ensures first { (b : Behavior J) (es : List (LocalAction J)) → IsQuiet b → IsExecution b es → IsPrefixOf (lines_written es) (lines_by b es) }
+    ensures all { (b : Behavior J) (es : List (LocalAction J)) → IsQuiet b → IsExecution b es → was_dropped es ≡ false → todo b es ≡ []
+        → lines_written es ≡ lines_by b es }
 {}
 
 /// A timer job logs what it logs alone, and while it goes on its threads, deadlines and sockets are those of the job alone.
@@ -107,12 +117,15 @@ pub fn who_asks_and_learns_the_same_gets_the_same<S: Minding>()
         → LearnTheSame {site = S.service} x y → reply ≡ other }
 {}
 
-/// A run whose turns are the same for all ledgers minds its own; and so do the runs of the examples, but for the one that tells what was sent before.
+/// A run whose turns are the same for all ledgers minds its own; and so do the runs of the examples, but for those that tell what was sent before: in their
+/// reply, in a log line, or in a question.
 pub fn runs_that_never_look_mind_their_own<J, R>()
     ensures minds { (p : RunPlan J R) → NeverLooks p → MindsItsOwn p }
     ensures stored { (name key otherwise : List ℕ) → MindsItsOwn {J = J} (stored_plan name key otherwise) }
     ensures echo { (reads : Bool) → MindsItsOwn {J = J} (echo_plan reads) }
     ensures recalling { MindsItsOwn {J = J} recalls_plan → ⊥ }
+    ensures telling_in_a_line { MindsItsOwn {J = J} tells_in_a_line → ⊥ }
+    ensures telling_in_a_question { MindsItsOwn {J = J} tells_in_a_question → ⊥ }
 {}
 
 /// What runs of the examples say alone: the path, the body, or what a dictionary keeps.
