@@ -16,9 +16,10 @@ use Rattle.send_queue.specs.Queues as queues
 use Rattle.strand_plans.proofs.Tidy.{IsTidyLedger}
 use Rattle.run_contract.specs.Conditions.{IsRun}
 use Rattle.connection_plan.specs.Services.{Service}
-use Rattle.connection_plan.specs.Conditions.{Knows, MayAsk}
+use Rattle.connection_plan.specs.Conditions.{MayAsk}
 use Rattle.connection_plan.specs.Connections.{connection_plan, connection_behavior}
 use Rattle.connection_plan.proofs.Meets.{meets}
+use Rattle.connection_strand.specs.Views.{View, service, Known}
 use Rattle.connection_strand.specs.declared.state.Connection.{Connection}
 use Rattle.connection_strand.specs.Kept.{Kept, kept}
 use Rattle.connection_strand.specs.Standing.{IsOn}
@@ -51,30 +52,30 @@ if-taken : (o : Bool) (n : ℕ) (xs : List ℕ) → (if o then take n xs else []
 if-taken true n xs = refl
 if-taken false n xs = take-nil n
 
-module _ {R J I : Type 0} (site : Service J I) (holds : Ledger J → I → Type 0) (stands : R → Ledger J → I → Type 0) (lawful : IsRun site.runs holds) where
+module _ {R J I : Type 0} (v : View R J I) (lawful : IsRun v.meaning.plan v.meaning.holds) where
   -- the life goes on between two turns of a strand that lives
-  going : (es : List (LocalAction J)) → IsExecution (connection_behavior site) es → lives es ≡ true → todo (connection_behavior site) es ≡ [] → (state_of (connection_plan site) es).ledger.ended ≡ false
-  going es f l t = test (state_of (connection_plan site) es).ledger.ended refl
+  going : (es : List (LocalAction J)) → IsExecution (connection_behavior (service v)) es → lives es ≡ true → todo (connection_behavior (service v)) es ≡ [] → (state_of (connection_plan (service v)) es).ledger.ended ≡ false
+  going es f l t = test (state_of (connection_plan (service v)) es).ledger.ended refl
     where
-      test : (o : Bool) → (state_of (connection_plan site) es).ledger.ended ≡ o → (state_of (connection_plan site) es).ledger.ended ≡ false
-      test true e = absurd (subst IsLastGone t (ended (connection_plan site) (Knows holds) (MayAsk site) (meets site holds lawful) es f l e))
+      test : (o : Bool) → (state_of (connection_plan (service v)) es).ledger.ended ≡ o → (state_of (connection_plan (service v)) es).ledger.ended ≡ false
+      test true e = absurd (subst IsLastGone t (ended (connection_plan (service v)) (Known v) (MayAsk (service v)) (meets (service v) v.meaning.holds lawful) es f l e))
       test false e = e
 
-  pub client-piece : (c : Connection R) (es : List (LocalAction J)) (bytes : List ℕ) → bytes ≡ queues.offered (kept c.client).sending → Follows site stands c es
-      → IsExecution (connection_behavior site) es → lives es ≡ true → todo (connection_behavior site) es ≡ [] → bytes ≡ piece (connection_behavior site) place.Client es
+  pub client-piece : (c : Connection R) (es : List (LocalAction J)) (bytes : List ℕ) → bytes ≡ queues.offered (kept c.client).sending → Follows v c es
+      → IsExecution (connection_behavior (service v)) es → lives es ≡ true → todo (connection_behavior (service v)) es ≡ [] → bytes ≡ piece (connection_behavior (service v)) place.Client es
   client-piece c es bytes e x f l t =
       e ∙ ap (λ (k : Kept). queues.offered k.sending) (x.stays (going es f l t)).client
-      ∙ sym (piece-is (connection_plan site) (Knows holds) (MayAsk site) (meets site holds lawful) es place.Client f l t)
+      ∙ sym (piece-is (connection_plan (service v)) (Known v) (MayAsk (service v)) (meets (service v) v.meaning.holds lawful) es place.Client f l t)
 
-  pub sock-piece : (c : Connection R) (es : List (LocalAction J)) (k : ℕ) (bytes : List ℕ) → HasPieceAt site.runs holds stands c k bytes → Follows site stands c es
-      → IsExecution (connection_behavior site) es → lives es ≡ true → todo (connection_behavior site) es ≡ [] → bytes ≡ piece (connection_behavior site) (place.Sock k) es
+  pub sock-piece : (c : Connection R) (es : List (LocalAction J)) (k : ℕ) (bytes : List ℕ) → HasPieceAt v c k bytes → Follows v c es
+      → IsExecution (connection_behavior (service v)) es → lives es ≡ true → todo (connection_behavior (service v)) es ≡ [] → bytes ≡ piece (connection_behavior (service v)) (place.Sock k) es
   sock-piece c es k bytes has-piece x f l t =
-      let st = state_of (connection_plan site) es in
+      let st = state_of (connection_plan (service v)) es in
       let y = x.stays (going es f l t) in
-      let g = lived (connection_plan site) (Knows holds) (MayAsk site) (meets site holds lawful) es f l in
-      has-piece st.ledger st.inner (ap (λ (k : Kept). k.stage) y.client) y.run g.inner (is-idle (connection_plan site) (Knows holds) es g t).none_asked
+      let g = lived (connection_plan (service v)) (Known v) (MayAsk (service v)) (meets (service v) v.meaning.holds lawful) es f l in
+      has-piece st.ledger st.inner (ap (λ (k : Kept). k.stage) y.client) y.run g.inner (is-idle (connection_plan (service v)) (Known v) es g t).none_asked
       ∙ if-taken (has (place.Sock k) st.ledger.opened) (16_384 - st.ledger.taken (place.Sock k) % 16_384) (left_at (place.Sock k) st.ledger)
-      ∙ sym (piece-is (connection_plan site) (Knows holds) (MayAsk site) (meets site holds lawful) es (place.Sock k) f l t)
+      ∙ sym (piece-is (connection_plan (service v)) (Known v) (MayAsk (service v)) (meets (service v) v.meaning.holds lawful) es (place.Sock k) f l t)
 
   pub on-left : (left : R → ℕ) (bound : ℕ) (c : Connection R) → IsOn (kept c.client).stage → left_of left bound c ≡ whole left bound c
   on-left left bound c on = by (kept c.client).stage on
@@ -88,9 +89,9 @@ module _ {R J I : Type 0} (site : Service J I) (holds : Ledger J → I → Type 
       by stage.Over on = absurd on
 
   -- it lives where it is shown something
-  pub shown-left : (left : R → ℕ) (bound : ℕ) (c : Connection R) (es : List (LocalAction J)) (x : Seen) → Follows site stands c es
-      → IsExecution (connection_behavior site) (Did (action_of (connection_behavior site) es x) ∷ es) → left_of left bound c ≡ whole left bound c
+  pub shown-left : (left : R → ℕ) (bound : ℕ) (c : Connection R) (es : List (LocalAction J)) (x : Seen) → Follows v c es
+      → IsExecution (connection_behavior (service v)) (Did (action_of (connection_behavior (service v)) es x) ∷ es) → left_of left bound c ≡ whole left bound c
   shown-left left bound c es x follows f =
-      let k = shown (connection_plan site) (Knows holds) (MayAsk site) (meets site holds lawful) x es f in
+      let k = shown (connection_plan (service v)) (Known v) (MayAsk (service v)) (meets (service v) v.meaning.holds lawful) x es f in
       let y = follows.stays k.going in
       on-left left bound c (subst IsOn (sym (ap (λ (k : Kept). k.stage) y.client)) y.on)

@@ -146,8 +146,21 @@ pub unit-some : 1 ≤ unit
 unfolding unit
 unit-some = omega arith
 
+unit-waits : 407 ≤ unit
+unfolding unit
+unit-waits = omega arith
+
 -- what pays for a turn of the run settles something
 module _ {R J : Type 0} (left : R → ℕ) (bound : ℕ) where
   pub pays-settles : (on : Bool) (c c' : Connection R) (u u' : Turn J) → Pays left bound unit c u c' u' → Settles left bound on c u c' u'
   pays-settles true c c' u u' h = let n = unit-some in omega arith
   pays-settles false c c' u u' h = let n = may-end left bound c' in omega arith
+
+  -- also a wait for more of a body before it
+  pub waits-settles : (on : Bool) (c d c' : Connection R) (u v u' : Turn J) → Spends left bound 406 c u d v → Pays left bound unit d v c' u' → Settles left bound on c u c' u'
+  waits-settles true c d c' u v u' h k = let n = unit-waits in omega arith
+  waits-settles false c d c' u v u' h k = let n = unit-waits in let e = may-end left bound c' in omega arith
+
+  pub settles-after : (on : Bool) (c d c' : Connection R) (u v u' : Turn J) → Spends left bound 0 c u d v → Settles left bound on d v c' u' → Settles left bound on c u c' u'
+  settles-after true c d c' u v u' h k = omega arith
+  settles-after false c d c' u v u' h k = omega arith

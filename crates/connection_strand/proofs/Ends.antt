@@ -4,17 +4,14 @@ use Rattle.std.proofs.Common.{◌≡◌, ℕ, ◌≤◌, ◌+◌, ◌*◌, Bool,
 use Rattle.strand_contract.specs.declared.turns.Act.{Act}
 use Rattle.strand_contract.specs.declared.turns.Act.TheVariants as act
 use Rattle.strand_contract.specs.declared.turns.Place.TheVariants as place
-use Rattle.strand_plans.specs.Questions.{Question}
-use Rattle.strand_plans.specs.Ledgers.{Ledger}
 use Rattle.strand_plans.specs.Moves.{Done, Performed, ending}
-use Rattle.run_contract.specs.Runs.{RunPlan}
 use Rattle.connection_plan.specs.Clients.{Stage}
 use Rattle.connection_plan.specs.Services.{Both}
-use Rattle.connection_plan.specs.Turns.{finish}
+use Rattle.connection_strand.specs.Views.{View, service}
 use Rattle.connection_strand.specs.declared.state.Connection.{Connection}
 use Rattle.connection_strand.specs.declared.state.Turn.{Turn}
-use Rattle.connection_strand.specs.Kept.{Kept, kept}
-use Rattle.connection_strand.specs.Standing.{plain, kept_sock, HasRun, Toward, Came, Went, asking, places}
+use Rattle.connection_strand.specs.Kept.{waits_of}
+use Rattle.connection_strand.specs.Standing.{plain, kept_sock, HasRun, Toward, Came, Went, places}
 use Rattle.connection_strand.specs.Costs.{weight_if}
 
 -- the acts of an end
@@ -22,17 +19,14 @@ pub ending-socks : {J : Type 0} (socks : List ℕ) → ending {J = J} (map place
 ending-socks [] = refl
 ending-socks (k ∷ ks) = ap (λ acts. act.HangUp (place.Sock k) ∷ acts) (ending-socks ks)
 
-pub no-question : {J : Type 0} (b : Ledger J) → b.asked ≡ None → asking None b ≡ b
-no-question {J} b e = ap (λ (q : Option (Question J)). record b { asked = q }) (sym e)
-
-module _ {R J I : Type 0} (plan : RunPlan J I) (holds : Ledger J → I → Type 0) (stands : R → Ledger J → I → Type 0) where
+module _ {R J I : Type 0} (v : View R J I) where
   -- nothing more is done
-  pub done-came : (st : Stage) (did : Performed J (Both I)) (c : Connection R) (u : Turn J) → Toward plan holds stands (plain st) did c u Done → Came plan holds stands did c u
+  pub done-came : (st : Stage) (did : Performed J (Both I)) (c : Connection R) (u : Turn J) → Toward v (plain st) did c u Done → Came v did c u
   done-came st did c u h =
       let b = h.ledger in
       let s = h.inner in
       let w = h.within.serves in
-      subst (λ (d : Performed J (Both I)). Came plan holds stands d c u) (sym h.leads) (record {
+      subst (λ (d : Performed J (Both I)). Came v d c u) (sym h.leads) (record {
         acts = append-nil u.acts.items;
         stays = λ on. record {
           client = w.client;
@@ -40,30 +34,14 @@ module _ {R J I : Type 0} (plan : RunPlan J I) (holds : Ledger J → I → Type 
           count = w.count;
           keeping = w.keeping ∙ ap kept_sock (sym w.none_asked);
           on = w.on;
-          run = subst (λ (l : Ledger J). HasRun plan stands s.client.stage c l s.run) (no-question b w.none_asked)
-              (subst (λ (st : Stage). HasRun plan stands st c (asking None b) s.run) (sym h.within.at) h.within.run);
+          run = subst (λ (st : Stage). HasRun v st c.run (waits_of c.waits) b s.run) (sym h.within.at) h.within.run;
         };
         taking = w.taking;
       })
 
-  pub went-came : (on : Bool) (did : Performed J (Both I)) (c : Connection R) (u : Turn J) → Went plan holds stands on did c u Done → Came plan holds stands did c u
+  pub went-came : (on : Bool) (did : Performed J (Both I)) (c : Connection R) (u : Turn J) → Went v on did c u Done → Came v did c u
   went-came true did c u w = done-came w.0 did c u w.1
   went-came false did c u w = w
-
-  -- the life is over
-  pub finishes : (st : Stage) (did : Performed J (Both I)) (c c' : Connection R) (u u' : Turn J)
-      → u'.acts.items ≡ u.acts.items ++ ending (places (kept c.client).opened c.sockets.items)
-      → Toward plan holds stands (plain st) did c u finish → Came plan holds stands did c' u'
-  finishes st did c c' u u' acts h =
-      let b = h.ledger in
-      let s = h.inner in
-      let w = h.within.serves in
-      let opens : b.opened ≡ places (kept c.client).opened c.sockets.items = w.sockets ∙ ap (λ (k : Kept). places k.opened c.sockets.items) (sym w.client) in
-      subst (λ (d : Performed J (Both I)). Came plan holds stands d c' u') (sym h.leads) (record {
-        acts = ap (λ qs. u.acts.items ++ ending qs) opens ∙ sym acts;
-        stays = λ on. absurd (let e : true ≡ false = on in cc);
-        taking = λ there. absurd (let e : false ≡ true = there in cc);
-      })
 
 -- what is hung up, before the life is over
 abbrev pub hung : {J : Type 0} → List ℕ → List (Act J)

@@ -14,28 +14,30 @@ use Rattle.strand_contract.specs.Alone.{is_some_left}
 use Rattle.strand_plans.specs.Ledgers.{Ledger, left_at}
 use Rattle.strand_plans.specs.Moves.{Move, Done, Performed, Look, perform}
 use Rattle.run_contract.specs.declared.turns.RunTurn.{RunTurn}
-use Rattle.run_contract.specs.Runs.{Waits, waits_at_first, performed}
+use Rattle.run_contract.specs.Runs.{Waits, waits_at_first}
 use Rattle.run_contract.specs.Calls as calls
-use Rattle.run_contract.specs.Conditions.{IsBlank, IsRun, IsLeft}
+use Rattle.run_contract.specs.Conditions.{IsBlank, IsRun, Leaves}
 use Rattle.connection_plan.specs.Clients.{Stage, Client, with_request, with_refusal, closes_after}
 use Rattle.connection_plan.specs.Clients as stage
 use Rattle.connection_plan.specs.Services.{Service, Both}
 use Rattle.connection_plan.specs.Timers as timer
-use Rattle.connection_plan.specs.Conditions.{Agrees}
+use Rattle.connection_plan.specs.Conditions.{AgreesWithin}
 use Rattle.connection_plan.specs.Turns.{is_there, is_all_taken, change, send, begin, end_timer, finish, close_if_taken, refuse, wait_for, heard_by, next, flush}
+use Rattle.connection_strand.specs.Views.{View, service}
 use Rattle.connection_strand.specs.declared.state.Connection.{Connection}
 use Rattle.connection_strand.specs.declared.state.Turn.{Turn}
 use Rattle.connection_strand.specs.Kept.{Kept, kept, kept_of, waits_of, all_taken}
-use Rattle.connection_strand.specs.Standing.{Moment, plain, HasRun, Serves, Toward, IsOn, IsFree, before, places, asking}
+use Rattle.connection_strand.specs.Standing.{Moment, plain, HasRun, Serves, Toward, IsOn, IsFree, before, places}
 use Rattle.connection_strand.specs.Turns.{Took, IsRefusedAt, IsAnswered}
 use Rattle.connection_strand.proofs.Moving.{IsSameRun}
+use Rattle.connection_strand.proofs.Telling.{took-turn}
 
-module _ {R J I : Type 0} (site : Service J I) (holds : Ledger J → I → Type 0) (stands : R → Ledger J → I → Type 0) where
+module _ {R J I : Type 0} (v : View R J I) where
   abbrev pub To : Moment J → Performed J (Both I) → Connection R → Turn J → Move J (Both I) → Type 0
-  To e did c u m = Toward site.runs holds stands e did c u m
+  To e did c u m = Toward v e did c u m
 
   -- where no run is nothing of one is left
-  pub blank-free : (st : Stage) (b : Ledger J) (r : I) → IsFree st → Agrees holds st b r → IsBlank b
+  pub blank-free : (st : Stage) (b : Ledger J) (r : I) → IsFree st → AgreesWithin v.meaning.holds st b r → IsBlank b
   blank-free stage.Idle b r f h = h
   blank-free stage.Head b r f h = h
   blank-free stage.Flush b r f h = h
@@ -43,7 +45,7 @@ module _ {R J I : Type 0} (site : Service J I) (holds : Ledger J → I → Type 
   blank-free stage.Busy b r f h = absurd f
   blank-free stage.Over b r f h = absurd f
 
-  agrees-free : (st : Stage) (b : Ledger J) (r : I) → IsFree st → IsBlank b → Agrees holds st b r
+  agrees-free : (st : Stage) (b : Ledger J) (r : I) → IsFree st → IsBlank b → AgreesWithin v.meaning.holds st b r
   agrees-free stage.Idle b r f h = h
   agrees-free stage.Head b r f h = h
   agrees-free stage.Flush b r f h = h
@@ -51,7 +53,7 @@ module _ {R J I : Type 0} (site : Service J I) (holds : Ledger J → I → Type 
   agrees-free stage.Busy b r f h = absurd f
   agrees-free stage.Over b r f h = absurd f
 
-  runs-free : (st : Stage) (c : Connection R) (b : Ledger J) (r : I) → IsFree st → HasRun site.runs stands st c b r
+  runs-free : (st : Stage) (c : Connection R) (b : Ledger J) (r : I) → IsFree st → HasRun v st c.run (waits_of c.waits) b r
   runs-free stage.Idle c b r f = tt
   runs-free stage.Head c b r f = tt
   runs-free stage.Flush c b r f = tt
@@ -92,53 +94,40 @@ module _ {R J I : Type 0} (site : Service J I) (holds : Ledger J → I → Type 
             on = subst IsOn (sym (goes s.client)) (on-free st' free');
           };
           at = goes s.client;
-          run = runs-free st' c' (asking None b) s.run free';
-          known = agrees-free st' (asking None b) s.run free' (blank-free st (asking None b) s.run free h.within.known);
+          run = runs-free st' c' b s.run free';
+          known = agrees-free st' b s.run free' (blank-free st b s.run free h.within.known);
           blank = λ over. absurd (let e : false ≡ true = over in cc);
+          made = refl;
         };
         leads = h.leads;
       }
 
   -- a request begins
-  pub begins-request : (lawful : IsRun site.runs holds) (now : ℕ) (st : Stage) (head : Head) (target : Target) (next : RunTurn J) (did : Performed J (Both I)) (c c' : Connection R) (u : Turn J) (m : Move J (Both I)) (run : R)
-      → IsFree st → calls.Begins site.runs holds stands now c.count head target run next → c'.run ≡ Some run → waits_of c'.waits ≡ waits_at_first true
+  pub begins-request : (lawful : IsRun v.meaning.plan v.meaning.holds) (now : ℕ) (st : Stage) (head : Head) (target : Target) (next : RunTurn J) (did : Performed J (Both I)) (c c' : Connection R) (u : Turn J) (m : Move J (Both I)) (run : R)
+      → IsFree st → calls.Begins v.meaning now c.count head target run next → c'.run ≡ Some run → waits_of c'.waits ≡ waits_at_first true
       → c'.sockets ≡ c.sockets → c'.count ≡ c.count → c'.keeping ≡ c.keeping → c'.is_taking ≡ c.is_taking
-      → kept c'.client ≡ record (kept c.client) { stage = stage.Busy; times = site.times_of head target; reply = stage.Unsent; expects = head.expects; waited = false }
-      → To (plain st) did c u (begin site now m head target) → Took site holds stands now next did c' u m
+      → kept c'.client ≡ record (kept c.client) { stage = stage.Busy; times = v.serving.times_of head target; reply = stage.Unsent; expects = head.expects; waited = false }
+      → To (plain st) did c u (begin (service v) now m head target) → Took v now next did c' u m
   begins-request lawful now st head target next did c c' u m run free begins is waits socks count keeping taking client h =
       let b = h.ledger in
       let s = h.inner in
       let w = h.within.serves in
-      let times = site.times_of head target in
-      let same : asking None b ≡ b = ap (λ a. record b { asked = a }) (sym w.none_asked) in
-      let blank : IsBlank b = subst IsBlank same (blank-free st (asking None b) s.run free h.within.known) in
-      let took = begins b blank (sym w.count) in
-      record {
-        ledger = b;
-        inner = record { client = with_request head target times s.client; run = site.runs.unborn };
-        turn = site.runs.begun now head target b;
-        serves = record {
-          client = client ∙ ap (λ (k : Kept). record k { stage = stage.Busy; times = times; reply = stage.Unsent; expects = head.expects; waited = false }) w.client;
-          sockets = w.sockets ∙ ap (λ v. places (is_there b) v.items) (sym socks);
-          count = count ∙ w.count;
-          keeping = keeping ∙ w.keeping;
-          offered = w.offered;
-          taking = λ there. taking ∙ w.taking there;
-          counted = w.counted;
-          once = w.once;
-          none_asked = w.none_asked;
-          on = tt;
-        };
-        busy = refl;
-        run = run;
-        is = is;
-        standing = took.0;
-        acts = took.1;
-        said = took.2;
-        left = subst (λ (x : Waits). IsLeft site.runs holds x (site.runs.begun now head target b).said (performed (site.runs.begun now head target b) b site.runs.unborn)) (sym waits) (lawful.begins now head target b blank);
-        own = lawful.begins_by_own now head target b;
-        leads = h.leads;
-      }
+      let times = v.serving.times_of head target in
+      let blank : IsBlank b = blank-free st b s.run free h.within.known in
+      let t = v.meaning.plan.begun now head target b in
+      took-turn v now t next did c' u m b (record { client = with_request head target times s.client; run = v.meaning.plan.unborn }) run (record {
+        client = client ∙ ap (λ (k : Kept). record k { stage = stage.Busy; times = times; reply = stage.Unsent; expects = head.expects; waited = false }) w.client;
+        sockets = w.sockets ∙ ap (λ v. places (is_there b) v.items) (sym socks);
+        count = count ∙ w.count;
+        keeping = keeping ∙ w.keeping;
+        offered = w.offered;
+        taking = λ there. taking ∙ w.taking there;
+        counted = w.counted;
+        once = w.once;
+        none_asked = w.none_asked;
+        on = tt;
+      }) refl is (begins b blank (sym w.count))
+      (subst (λ (x : Waits). Leaves v.meaning.plan v.meaning.holds x t b) (sym waits) (lawful.begins now head target b blank)) h.leads
 
   -- ---- what is waited for
 
@@ -152,45 +141,45 @@ module _ {R J I : Type 0} (site : Service J I) (holds : Ledger J → I → Type 
   }
 
   pub waits-so : (now : ℕ) (e : Moment J) (did : Performed J (Both I)) (c : Connection R) (u : Turn J) (x : Held) → x ≡ held_in (kept c.client).came.at (kept c.client).came.held
-      → To e did c u (Look (λ b s. wait_for site now (held_in s.client.came.at s.client.came.held))) → To e did c u (wait_for site now x)
+      → To e did c u (Look (λ b s. wait_for (service v) now (held_in s.client.came.at s.client.came.held))) → To e did c u (wait_for (service v) now x)
   waits-so now e did c u x is h =
-      looks _ _ e did c u h (ap (wait_for site now) (sym (is ∙ ap (λ (k : Kept). held_in k.came.at k.came.held) h.within.serves.client)))
+      looks _ _ e did c u h (ap (wait_for (service v) now) (sym (is ∙ ap (λ (k : Kept). held_in k.came.at k.came.held) h.within.serves.client)))
 
   -- ---- a head that is refused
 
   refused-at : (now code : ℕ) (at : At) (bytes : List ℕ) (x : Held) → IsRefusedAt at → x ≡ held_in at bytes
-      → (x ≡ held.Begun → refuse site now at code ≡ refuse site now (line.Over code) code) × ((x ≡ held.Begun → ⊥) → refuse site now at code ≡ finish)
+      → (x ≡ held.Begun → refuse (service v) now at code ≡ refuse (service v) now (line.Over code) code) × ((x ≡ held.Begun → ⊥) → refuse (service v) now at code ≡ finish)
   refused-at now code (line.Over status) bytes x h e = ((λ f. refl), (λ f. absurd (f e)))
   refused-at now code (line.Dropping far) bytes x h e = ((λ f. absurd (let g : held.Body ≡ held.Begun = sym e ∙ f in cc)), (λ f. refl))
   refused-at now code line.Head bytes x h e = absurd h
   refused-at now code (line.Present body kind skips) bytes x h e = absurd h
 
   abbrev pub Refuses : ℕ → ℕ → Moment J → Performed J (Both I) → Connection R → Turn J → Type 0
-  Refuses now code e did c u = To e did c u (Look (λ b s. end_timer site now timer.Header (refuse site now s.client.came.at code)))
+  Refuses now code e did c u = To e did c u (Look (λ b s. end_timer (service v) now timer.Header (refuse (service v) now s.client.came.at code)))
 
   pub refuses-head : (now code : ℕ) (e : Moment J) (did : Performed J (Both I)) (c : Connection R) (u : Turn J) (x : Held) → IsRefusedAt (kept c.client).came.at
       → x ≡ held_in (kept c.client).came.at (kept c.client).came.held → x ≡ held.Begun
-      → Refuses now code e did c u → To e did c u (end_timer site now timer.Header (refuse site now (line.Over code) code))
+      → Refuses now code e did c u → To e did c u (end_timer (service v) now timer.Header (refuse (service v) now (line.Over code) code))
   refuses-head now code e did c u x at is begun h =
       let came = ap (λ (k : Kept). k.came) h.within.serves.client in
-      looks _ _ e did c u h (ap (end_timer site now timer.Header)
-      (ap (λ (k : Came). refuse site now k.at code) (sym came) ∙ (refused-at now code (kept c.client).came.at (kept c.client).came.held x at is).0 begun))
+      looks _ _ e did c u h (ap (end_timer (service v) now timer.Header)
+      (ap (λ (k : Came). refuse (service v) now k.at code) (sym came) ∙ (refused-at now code (kept c.client).came.at (kept c.client).came.held x at is).0 begun))
 
   pub refuses-body : (now code : ℕ) (e : Moment J) (did : Performed J (Both I)) (c : Connection R) (u : Turn J) (x : Held) → IsRefusedAt (kept c.client).came.at
       → x ≡ held_in (kept c.client).came.at (kept c.client).came.held → (x ≡ held.Begun → ⊥)
-      → Refuses now code e did c u → To e did c u (end_timer site now timer.Header finish)
+      → Refuses now code e did c u → To e did c u (end_timer (service v) now timer.Header finish)
   refuses-body now code e did c u x at is begun h =
       let came = ap (λ (k : Kept). k.came) h.within.serves.client in
-      looks _ _ e did c u h (ap (end_timer site now timer.Header)
-      (ap (λ (k : Came). refuse site now k.at code) (sym came) ∙ (refused-at now code (kept c.client).came.at (kept c.client).came.held x at is).1 begun))
+      looks _ _ e did c u h (ap (end_timer (service v) now timer.Header)
+      (ap (λ (k : Came). refuse (service v) now k.at code) (sym came) ∙ (refused-at now code (kept c.client).came.at (kept c.client).came.held x at is).1 begun))
 
   pub refuses-now : (now code : ℕ) (st : Stage) (did : Performed J (Both I)) (c c' : Connection R) (u : Turn J) (bytes : List ℕ) → IsFree st → IsSameRun c c'
-      → kept c'.client ≡ record (kept c.client) { stage = stage.Flush; times = site.default_times; reply = stage.Whole true } → bytes ≡ site.refusal code now
-      → To (plain st) did c u (refuse site now (line.Over code) code) → To (plain stage.Flush) did c' u (send site 0 bytes (close_if_taken site now))
+      → kept c'.client ≡ record (kept c.client) { stage = stage.Flush; times = v.serving.default_times; reply = stage.Whole true } → bytes ≡ v.serving.refusal code now
+      → To (plain st) did c u (refuse (service v) now (line.Over code) code) → To (plain stage.Flush) did c' u (send (service v) 0 bytes (close_if_taken (service v) now))
   refuses-now now code st did c c' u bytes free same client is h =
-      subst (λ (xs : List ℕ). To (plain stage.Flush) did c' u (send site 0 xs (close_if_taken site now))) (sym is)
-      (restages (with_refusal code site.default_times) (λ k. record k { stage = stage.Flush; times = site.default_times; reply = stage.Whole true }) st stage.Flush did c c' u
-      (send site now (site.refusal code now) (close_if_taken site now)) free tt (λ b x. refl) (λ x. refl) same client h)
+      subst (λ (xs : List ℕ). To (plain stage.Flush) did c' u (send (service v) 0 xs (close_if_taken (service v) now))) (sym is)
+      (restages (with_refusal code v.serving.default_times) (λ k. record k { stage = stage.Flush; times = v.serving.default_times; reply = stage.Whole true }) st stage.Flush did c c' u
+      (send (service v) now (v.serving.refusal code now) (close_if_taken (service v) now)) free tt (λ b x. refl) (λ x. refl) same client h)
 
   pub not-begun : (x : Held) → (x ≡ held.Request) ⊎ ((x ≡ held.Body) ⊎ (x ≡ held.Nothing)) → x ≡ held.Begun → ⊥
   not-begun x h e = elim h [
@@ -210,21 +199,21 @@ module _ {R J I : Type 0} (site : Service J I) (holds : Ledger J → I → Type 
       by false = refl
 
   pub closes : (now : ℕ) (e : Moment J) (did : Performed J (Both I)) (c : Connection R) (u : Turn J) (x : Bool) → all_taken (kept c.client) ≡ x
-      → To e did c u (close_if_taken site now) → To e did c u (if x then finish else Done)
+      → To e did c u (close_if_taken (service v) now) → To e did c u (if x then finish else Done)
   closes now e did c u x is h =
       looks _ _ e did c u h (ap (λ (y : Bool). if y then finish else Done) (sym (taken-is c u h.ledger h.inner h.within.serves) ∙ is))
 
   -- ---- what is heard
 
   abbrev pub Heard : ℕ → Bool → Move J (Both I) → LineOut → Moment J → Performed J (Both I) → Connection R → Turn J → Type 0
-  Heard now anew rest answer e did c u = To e did c u (Look (λ b s. heard_by site now anew rest s.client.came s.client.ended answer))
+  Heard now anew rest answer e did c u = To e did c u (Look (λ b s. heard_by (service v) now anew rest s.client.came s.client.ended answer))
 
   abbrev pub heard-as : (now : ℕ) (anew : Bool) (rest : Move J (Both I)) (x y : LineOut) (e : Moment J) (did : Performed J (Both I)) (c : Connection R) (u : Turn J) → x ≡ y
       → Heard now anew rest x e did c u → Heard now anew rest y e did c u
   heard-as now anew rest x y e did c u is h = subst (λ (z : LineOut). Heard now anew rest z e did c u) is h
 
   pub hears-request : (now : ℕ) (anew : Bool) (rest : Move J (Both I)) (x : LineOut) (head : Head) (target : Target) (e : Moment J) (did : Performed J (Both I)) (c : Connection R) (u : Turn J)
-      → x ≡ out.Request head target → Heard now anew rest x e did c u → To e did c u (end_timer site now timer.Header (begin site now rest head target))
+      → x ≡ out.Request head target → Heard now anew rest x e did c u → To e did c u (end_timer (service v) now timer.Header (begin (service v) now rest head target))
   hears-request now anew rest x head target e did c u is h =
       let g = heard-as now anew rest x (out.Request head target) e did c u is h in
       record { ledger = g.ledger; inner = g.inner; within = g.within; leads = g.leads }
@@ -239,15 +228,15 @@ module _ {R J I : Type 0} (site : Service J I) (holds : Ledger J → I → Type 
       → x ≡ out.Waiting → c.client.has_ended ≡ true → Heard now anew rest x e did c u → To e did c u finish
   hears-end now anew rest x e did c u is ended h =
       let g = heard-as now anew rest x out.Waiting e did c u is h in
-      looks _ _ e did c u g (ap (λ (y : Bool). if y then finish else (if anew then wait_for site now (held_in g.inner.client.came.at g.inner.client.came.held) else Done))
+      looks _ _ e did c u g (ap (λ (y : Bool). if y then finish else (if anew then wait_for (service v) now (held_in g.inner.client.came.at g.inner.client.came.held) else Done))
       (sym (ap (λ (k : Kept). k.ended) g.within.serves.client) ∙ ended))
 
   pub hears-waiting : (now : ℕ) (anew y : Bool) (rest : Move J (Both I)) (x : LineOut) (e : Moment J) (did : Performed J (Both I)) (c : Connection R) (u : Turn J)
       → x ≡ out.Waiting → c.client.has_ended ≡ false → anew ≡ y → Heard now anew rest x e did c u
-      → To e did c u (Look (λ b s. if y then wait_for site now (held_in s.client.came.at s.client.came.held) else Done))
+      → To e did c u (Look (λ b s. if y then wait_for (service v) now (held_in s.client.came.at s.client.came.held) else Done))
   hears-waiting now anew y rest x e did c u is ended anew-is h =
       let g = heard-as now anew rest x out.Waiting e did c u is h in
-      let waits : Bool → Move J (Both I) = λ z. if z then wait_for site now (held_in g.inner.client.came.at g.inner.client.came.held) else Done in
+      let waits : Bool → Move J (Both I) = λ z. if z then wait_for (service v) now (held_in g.inner.client.came.at g.inner.client.came.held) else Done in
       let n = looks _ (waits y) e did c u g (ap (λ (z : Bool). if z then finish else waits anew) (sym (ap (λ (k : Kept). k.ended) g.within.serves.client) ∙ ended) ∙ ap waits anew-is) in
       record { ledger = n.ledger; inner = n.inner; within = n.within; leads = n.leads }
 
@@ -260,22 +249,22 @@ module _ {R J I : Type 0} (site : Service J I) (holds : Ledger J → I → Type 
   -- ---- a reply that is to be taken
 
   abbrev pub Flushes : ℕ → Move J (Both I) → Moment J → Performed J (Both I) → Connection R → Turn J → Type 0
-  Flushes now rest e did c u = To e did c u (Look (λ b s. flush site now rest b s.client))
+  Flushes now rest e did c u = To e did c u (Look (λ b s. flush (service v) now rest b s.client))
 
   pub flushes-not : (now : ℕ) (rest : Move J (Both I)) (e : Moment J) (did : Performed J (Both I)) (c : Connection R) (u : Turn J) → all_taken (kept c.client) ≡ false
       → Flushes now rest e did c u → To e did c u Done
   flushes-not now rest e did c u is h =
-      looks _ _ e did c u h (ap (λ (x : Bool). if not x then Done else (if not (is_there h.ledger) || closes_after h.inner.client.reply then finish else next site now rest h.inner.client))
+      looks _ _ e did c u h (ap (λ (x : Bool). if not x then Done else (if not (is_there h.ledger) || closes_after h.inner.client.reply then finish else next (service v) now rest h.inner.client))
       (sym (taken-is c u h.ledger h.inner h.within.serves) ∙ is))
 
   pub flushes-end : (now : ℕ) (y : Bool) (rest : Move J (Both I)) (e : Moment J) (did : Performed J (Both I)) (c : Connection R) (u : Turn J) → all_taken (kept c.client) ≡ true
       → (not (kept c.client).opened || closes_after (kept c.client).reply) ≡ y
-      → Flushes now rest e did c u → To e did c u (Look (λ b s. if y then finish else next site now rest s.client))
+      → Flushes now rest e did c u → To e did c u (Look (λ b s. if y then finish else next (service v) now rest s.client))
   flushes-end now y rest e did c u is ends h =
-      let n = looks _ (if y then finish else next site now rest h.inner.client) e did c u h
-      (ap (λ (x : Bool). if not x then Done else (if not (is_there h.ledger) || closes_after h.inner.client.reply then finish else next site now rest h.inner.client))
+      let n = looks _ (if y then finish else next (service v) now rest h.inner.client) e did c u h
+      (ap (λ (x : Bool). if not x then Done else (if not (is_there h.ledger) || closes_after h.inner.client.reply then finish else next (service v) now rest h.inner.client))
       (sym (taken-is c u h.ledger h.inner h.within.serves) ∙ is)
-      ∙ ap (λ (x : Bool). if x then finish else next site now rest h.inner.client) (sym (ap (λ (k : Kept). not k.opened || closes_after k.reply) h.within.serves.client) ∙ ends)) in
+      ∙ ap (λ (x : Bool). if x then finish else next (service v) now rest h.inner.client) (sym (ap (λ (k : Kept). not k.opened || closes_after k.reply) h.within.serves.client) ∙ ends)) in
       record { ledger = n.ledger; inner = n.inner; within = n.within; leads = n.leads }
 
   pub flushes-finish : (now : ℕ) (rest : Move J (Both I)) (e : Moment J) (did : Performed J (Both I)) (c : Connection R) (u : Turn J) → all_taken (kept c.client) ≡ true
@@ -284,7 +273,7 @@ module _ {R J I : Type 0} (site : Service J I) (holds : Ledger J → I → Type 
       let n = flushes-end now true rest e did c u is ends h in record { ledger = n.ledger; inner = n.inner; within = n.within; leads = n.leads }
 
   pub flushes-next : (now : ℕ) (rest : Move J (Both I)) (e : Moment J) (did : Performed J (Both I)) (c : Connection R) (u : Turn J) → all_taken (kept c.client) ≡ true
-      → (not (kept c.client).opened || closes_after (kept c.client).reply) ≡ false → Flushes now rest e did c u → To e did c u (Look (λ b s. next site now rest s.client))
+      → (not (kept c.client).opened || closes_after (kept c.client).reply) ≡ false → Flushes now rest e did c u → To e did c u (Look (λ b s. next (service v) now rest s.client))
   flushes-next now rest e did c u is ends h =
       let n = flushes-end now false rest e did c u is ends h in record { ledger = n.ledger; inner = n.inner; within = n.within; leads = n.leads }
 

@@ -3,7 +3,7 @@ pub mod Moving
 pub mod Offering
 pub mod Speaking
 pub mod Sockets
-pub mod OwnTurns
+pub mod Parts
 pub mod Ends
 pub mod Facing
 pub mod Costing
@@ -22,5 +22,4 @@ pub mod Nexts
 pub mod Coming
 pub mod Bridge
 pub mod Turning
-pub mod Adopting
 pub mod Answering

@@ -5,38 +5,39 @@ use Rattle.strand_plans.specs.Moves.{Move, Performed, perform}
 use Rattle.connection_plan.specs.Clients.{Stage}
 use Rattle.connection_plan.specs.Services.{Service, Both}
 use Rattle.connection_plan.specs.Turns.{settle}
+use Rattle.connection_strand.specs.Views.{View, service}
 use Rattle.connection_strand.specs.declared.state.Connection.{Connection}
 use Rattle.connection_strand.specs.declared.state.Turn.{Turn}
 use Rattle.connection_strand.specs.Standing.{plain, Toward, Came, Went, Steps, IsWithin, before}
 use Rattle.connection_strand.specs.Costs.{whole, weight_if, Spends, Costs, Settles}
 
-module _ {R J I : Type 0} (site : Service J I) (holds : Ledger J → I → Type 0) (stands : R → Ledger J → I → Type 0) (now : ℕ) where
+module _ {R J I : Type 0} (v : View R J I) (now : ℕ) where
   -- what settling came to so far, and that it may go on
   pub record IsSettling (on : Bool) (c0 : Connection R) (u0 : Turn J) (c : Connection R) (u : Turn J) : Type 0 where
-    pub moves : (st : Stage) (did : Performed J (Both I)) → Toward site.runs holds stands (plain st) did c0 u0 (settle site now) → Went site.runs holds stands on did c u (settle site now)
-    pub within : on ≡ true → IsWithin site.runs holds stands c u
+    pub moves : (st : Stage) (did : Performed J (Both I)) → Toward v (plain st) did c0 u0 (settle (service v) now) → Went v on did c u (settle (service v) now)
+    pub within : on ≡ true → IsWithin v c u
 
-  pub begins : (c : Connection R) (u : Turn J) → IsWithin site.runs holds stands c u → IsSettling true c u c u
+  pub begins : (c : Connection R) (u : Turn J) → IsWithin v c u → IsSettling true c u c u
   begins c u x = record { moves = λ st did h. (st, h); within = λ e. x }
 
-  within-on : (on : Bool) (did : Performed J (Both I)) (c : Connection R) (u : Turn J) (m : Move J (Both I)) → Went site.runs holds stands on did c u m → on ≡ true
-      → IsWithin site.runs holds stands c u
+  within-on : (on : Bool) (did : Performed J (Both I)) (c : Connection R) (u : Turn J) (m : Move J (Both I)) → Went v on did c u m → on ≡ true
+      → IsWithin v c u
   within-on true did c u m w e = (w.0, (w.1.ledger, w.1.inner, w.1.within))
   within-on false did c u m w e = absurd (let f : false ≡ true = e in cc)
 
-  pub goes-on : (on : Bool) (c0 : Connection R) (u0 : Turn J) (c : Connection R) (u : Turn J) (d : Connection R) (v : Turn J) → IsSettling true c0 u0 c u
-      → Steps site.runs holds stands on (settle site now) c u d v → IsSettling on c0 u0 d v
-  goes-on on c0 u0 c u d v x steps =
+  pub goes-on : (on : Bool) (c0 : Connection R) (u0 : Turn J) (c : Connection R) (u : Turn J) (d : Connection R) (w : Turn J) → IsSettling true c0 u0 c u
+      → Steps v on (settle (service v) now) c u d w → IsSettling on c0 u0 d w
+  goes-on on c0 u0 c u d w x steps =
       let y = x.within refl in
-      let did : Performed J (Both I) = before u.acts.items (perform (settle site now) y.1.0 y.1.1) in
-      let h : Toward site.runs holds stands (plain y.0) did c u (settle site now) = record { ledger = y.1.0; inner = y.1.1; within = y.1.2; leads = refl } in
+      let did : Performed J (Both I) = before u.acts.items (perform (settle (service v) now) y.1.0 y.1.1) in
+      let h : Toward v (plain y.0) did c u (settle (service v) now) = record { ledger = y.1.0; inner = y.1.1; within = y.1.2; leads = refl } in
       record {
-        moves = λ st did h. (let w = x.moves st did h in steps w.0 did w.1);
-        within = within-on on did d v (settle site now) (steps y.0 did h);
+        moves = λ st did h. (let t = x.moves st did h in steps t.0 did t.1);
+        within = within-on on did d w (settle (service v) now) (steps y.0 did h);
       }
 
   pub settled : (c0 : Connection R) (u0 : Turn J) (c : Connection R) (u : Turn J) (st : Stage) (did : Performed J (Both I)) → IsSettling false c0 u0 c u
-      → Toward site.runs holds stands (plain st) did c0 u0 (settle site now) → Came site.runs holds stands did c u
+      → Toward v (plain st) did c0 u0 (settle (service v) now) → Came v did c u
   settled c0 u0 c u st did x h = x.moves st did h
 
 module _ {R J : Type 0} (left : R → ℕ) (bound : ℕ) where

@@ -21,16 +21,17 @@ use Rattle.connection_plan.specs.Timers.{Timer, number_of}
 use Rattle.connection_plan.specs.Timers as timer
 use Rattle.connection_plan.specs.Turns.{is_there, finish, tell, end_timer, lose, lose_at}
 use Rattle.connection_plan.proofs.Alike.{hung-up-alike}
+use Rattle.connection_plan.proofs.Lifted.{SameRun}
 use Rattle.connection_strand.specs.declared.client.Stage as code
 use Rattle.connection_strand.specs.declared.client.Stage.TheVariants as own
+use Rattle.connection_strand.specs.Views.{View, service}
 use Rattle.connection_strand.specs.declared.state.Connection.{Connection}
 use Rattle.connection_strand.specs.declared.state.Turn.{Turn}
 use Rattle.connection_strand.specs.Acts.{hang_ups}
 use Rattle.connection_strand.specs.Kept.{Kept, kept, kept_of, waits_of, stage_of}
-use Rattle.connection_strand.specs.Standing.{Moment, plain, HasRun, Serves, Within, Toward, Came, Went, Goes, IsAt, before, places, asking, kept_sock}
+use Rattle.connection_strand.specs.Standing.{Moment, plain, Serves, Within, Toward, Came, Goes, IsAt, before, places}
 use Rattle.connection_strand.specs.Turns.{Told}
 use Rattle.connection_strand.proofs.Moving.{IsSameRun, one-more, stays-within}
-use Rattle.connection_strand.proofs.OwnTurns.{at-stage}
 use Rattle.connection_strand.proofs.Sockets.{without-none}
 
 -- no run is there, in code
@@ -70,13 +71,13 @@ ending-places : {J : Type 0} (o : Bool) (ks : List ℕ) → ending {J = J} (plac
 ending-places true ks = ap (λ xs. act.HangUp place.Client ∷ xs) (ending-socks ks)
 ending-places false ks = ending-socks ks
 
-module _ {R J I : Type 0} (site : Service J I) (holds : Ledger J → I → Type 0) (stands : R → Ledger J → I → Type 0) where
+module _ {R J I : Type 0} (v : View R J I) where
   abbrev pub To : Moment J → Performed J (Both I) → Connection R → Turn J → Move J (Both I) → Type 0
-  To e did c u m = Toward site.runs holds stands e did c u m
+  To e did c u m = Toward v e did c u m
 
   pub finishes : (st : Stage) (did : Performed J (Both I)) (c c' : Connection R) (u u' : Turn J) (acts acts' : List (Act J))
       → acts ≡ u.acts.items ++ client_act c.client.is_open → acts' ≡ acts ++ hang_ups c.sockets.items → u'.acts.items ≡ acts' ++ act.Gone ∷ []
-      → To (plain st) did c u finish → Came site.runs holds stands did c' u'
+      → To (plain st) did c u finish → Came v did c' u'
   finishes st did c c' u u' acts acts' first others gone h =
       let b = h.ledger in
       let w = h.within.serves in
@@ -89,39 +90,15 @@ module _ {R J I : Type 0} (site : Service J I) (holds : Ledger J → I → Type 
       ∙ ap (λ xs. xs ++ (hang_ups c.sockets.items ++ act.Gone ∷ [])) (sym first)
       ∙ sym (append_assoc acts (hang_ups c.sockets.items) (act.Gone ∷ []))
       ∙ ap (λ xs. xs ++ act.Gone ∷ []) (sym others) ∙ sym gone in
-      subst (λ (p : Performed J (Both I)). Came site.runs holds stands p c' u') (sym h.leads) (record {
+      subst (λ (p : Performed J (Both I)). Came v p c' u') (sym h.leads) (record {
         acts = all;
         stays = λ on. absurd (let e : true ≡ false = on in cc);
         taking = λ there. absurd (let e : false ≡ true = there in cc);
       })
 
-  -- nothing is left of the turn
-  pub done : (st : Stage) (did : Performed J (Both I)) (c : Connection R) (u : Turn J) → To (plain st) did c u Done → Came site.runs holds stands did c u
-  done st did c u h =
-      let b = h.ledger in
-      let s = h.inner in
-      let w = h.within.serves in
-      let same : asking None b ≡ b = ap (λ a. record b { asked = a }) (sym w.none_asked) in
-      subst (λ (p : Performed J (Both I)). Came site.runs holds stands p c u) (sym h.leads) (record {
-        acts = append-nil u.acts.items;
-        stays = λ on. record {
-          client = w.client;
-          sockets = w.sockets;
-          count = w.count;
-          keeping = w.keeping ∙ ap kept_sock (sym w.none_asked);
-          on = w.on;
-          run = subst (λ (l : Ledger J). HasRun site.runs stands s.client.stage c l s.run) same (at-stage site holds stands st s.client.stage c (asking None b) s.run (sym h.within.at) h.within.run);
-        };
-        taking = w.taking;
-      })
-
-  pub went-done : (on : Bool) (did : Performed J (Both I)) (c : Connection R) (u : Turn J) → Went site.runs holds stands on did c u Done → Came site.runs holds stands did c u
-  went-done true did c u h = done h.0 did c u h.1
-  went-done false did c u h = h
-
   -- moves that are made leave it within the turn
-  pub goes-at : (f : Move J (Both I) → Move J (Both I)) (st : Stage) (c c' : Connection R) (u u' : Turn J) → Goes site.runs holds stands f c u c' u'
-      → IsAt site.runs holds stands st c u → IsAt site.runs holds stands st c' u'
+  pub goes-at : (f : Move J (Both I) → Move J (Both I)) (st : Stage) (c c' : Connection R) (u u' : Turn J) → Goes v f c u c' u'
+      → IsAt v st c u → IsAt v st c' u'
   goes-at f st c c' u u' goes h =
       let did = before u.acts.items (perform (f Done) h.0 h.1) in
       let t = goes (plain st) did Done (record { ledger = h.0; inner = h.1; within = h.2; leads = refl }) in
@@ -131,30 +108,20 @@ module _ {R J I : Type 0} (site : Service J I) (holds : Ledger J → I → Type 
 
   -- it may be told this, by what it waits for
   abbrev pub MayTell : ℕ → RunSeen → Connection R → Type 0
-  MayTell now x c = (b : Ledger J) (r : I) → b.asked ≡ None → waits_of c.waits ≡ site.runs.waits r → (entered_as x b ≡ b) × MayCome site.runs now x b r
+  MayTell now x c = (b : Ledger J) (r : I) → b.asked ≡ None → waits_of c.waits ≡ v.meaning.plan.waits r → (entered_as x b ≡ b) × MayCome v.meaning.plan now x b r
 
-  unasked : (c : Connection R) (u : Turn J) (b : Ledger J) (s : Both I) → Within site.runs holds stands (plain stage.Busy) c u b s → asking None b ≡ b
-  unasked c u b s h = ap (λ a. record b { asked = a }) (sym h.serves.none_asked)
-
-  pub may-tell : (now : ℕ) (x : RunSeen) (c : Connection R) (u : Turn J) → MayTell now x c → IsAt site.runs holds stands stage.Busy c u
-      → (run : R) → c.run ≡ Some run → calls.MayBeTold site.runs holds stands now x run
+  pub may-tell : (now : ℕ) (x : RunSeen) (c : Connection R) (u : Turn J) → MayTell now x c → IsAt v stage.Busy c u
+      → (run : R) → c.run ≡ Some run → calls.MayBeTold v.meaning now x run
   may-tell now x c u may h run is =
-      let same = unasked c u h.0 h.1 h.2 in
-      let mine : h.2.run.0 ≡ run = (let g : Some h.2.run.0 ≡ Some run = sym h.2.run.1 ∙ is in cc) in (
-        h.0,
-        h.1.run,
-        subst (λ (y : R). stands y h.0 h.1.run) mine (subst (λ (l : Ledger J). stands h.2.run.0 l h.1.run) same h.2.run.2),
-        subst (λ (l : Ledger J). holds l h.1.run) same h.2.known,
-        (may h.0 h.1.run h.2.serves.none_asked h.2.run.3).1,
-      )
+      let mine : h.2.run.0 ≡ run = (let g : Some h.2.run.0 ≡ Some run = sym h.2.run.1 ∙ is in cc) in
+      (h.0, h.1.run, subst (λ (y : R). v.meaning.stands y h.0 h.1.run) mine h.2.run.2, h.2.known, (may h.0 h.1.run h.2.serves.none_asked h.2.run.3).1)
 
   pub tells : (now : ℕ) (x : RunSeen) (did : Performed J (Both I)) (c : Connection R) (u : Turn J) (m : Move J (Both I)) → MayTell now x c
-      → To (plain stage.Busy) did c u (tell site now x m) → Told site holds stands now x did c u m
+      → To (plain stage.Busy) did c u (tell (service v) now x m) → Told v now x did c u m
   tells now x did c u m may h =
       let b = h.ledger in
       let s = h.inner in
       let w = h.within in
-      let same = unasked c u b s w in
       let comes = may b s.run w.serves.none_asked w.run.3 in
       record {
         ledger = b;
@@ -163,16 +130,19 @@ module _ {R J I : Type 0} (site : Service J I) (holds : Ledger J → I → Type 
         busy = w.at;
         run = w.run.0;
         is = w.run.1;
-        standing = subst (λ (l : Ledger J). stands w.run.0 l s.run) same w.run.2;
+        standing = w.run.2;
         waits = w.run.3;
-        known = subst (λ (l : Ledger J). holds l s.run) same w.known;
+        known = w.known;
         comes = comes.1;
-        leads = h.leads ∙ ap (λ (l : Ledger J). before u.acts.items (perform (tell site now x m) l s)) (sym comes.0);
+        leads = h.leads ∙ ap (λ (l : Ledger J). before u.acts.items (perform (tell (service v) now x m) l s)) (sym comes.0);
       }
 
   -- ---- the client is hung up
 
-  module _ (lawful : IsRun site.runs holds) (apart : (x : R) (b c : Ledger J) (r : I) → AreAlike b c → stands x b r → stands x c r) where
+  module _ (lawful : IsRun v.meaning.plan v.meaning.holds) (apart : (x : R) (b c : Ledger J) (r : I) → AreAlike b c → v.meaning.stands x b r → v.meaning.stands x c r) where
+    hung-up-same : (b : Ledger J) → SameRun b (hung_up place.Client b)
+    hung-up-same b = record { alike = hung-up-alike b; places = λ k. refl; begun = λ k. refl }
+
     gone-client : (b : Ledger J) → has place.Client (without_place place.Client b.opened) ≡ false
     gone-client b = has-without place.Client place.Client b.opened
 
@@ -196,7 +166,7 @@ module _ {R J I : Type 0} (site : Service J I) (holds : Ledger J → I → Type 
         record {
           ledger = b';
           inner = s;
-          within = stays-within site holds stands lawful apart e c c' u u' b b' s s h.within (hung-up-alike b) refl refl same.run same.waits (record {
+          within = stays-within v lawful apart e c c' u u' b b' s s h.within (hung-up-same b) refl refl same.run same.waits (record {
             client = client ∙ ap (λ (k : Kept). record k { opened = false; sending = queues.dropped k.sending }) w.client
                 ∙ sym (ap (λ o. record (kept_of b s.client) { opened = o; sending = record { bytes = if o then left_at place.Client b else []; phase = (kept_of b s.client).sending.phase; gone = not o } }) (gone-client b));
             sockets = ap (without_place place.Client) w.sockets ∙ places-left (is_there b) c.sockets.items ∙ ap (λ o. places o c.sockets.items) (sym (gone-client b)) ∙ ap (places (is_there b')) (sym same.sockets);
@@ -229,7 +199,7 @@ module _ {R J I : Type 0} (site : Service J I) (holds : Ledger J → I → Type 
 
   -- ---- the client is lost
 
-  not-busy : (now : ℕ) (st : Stage) (s : Both I) → (st ≡ stage.Busy → ⊥) → lose_at site now st s ≡ finish
+  not-busy : (now : ℕ) (st : Stage) (s : Both I) → (st ≡ stage.Busy → ⊥) → lose_at (service v) now st s ≡ finish
   not-busy now stage.Busy s h = absurd (h refl)
   not-busy now stage.Idle s h = refl
   not-busy now stage.Head s h = refl
@@ -239,7 +209,7 @@ module _ {R J I : Type 0} (site : Service J I) (holds : Ledger J → I → Type 
 
   -- without a run the life is over
   pub loses-free : (now : ℕ) (st : Stage) (did : Performed J (Both I)) (c : Connection R) (u : Turn J) → ((kept c.client).stage ≡ stage.Busy → ⊥)
-      → To (plain st) did c u (lose site now) → To (plain st) did c u finish
+      → To (plain st) did c u (lose (service v) now) → To (plain st) did c u finish
   loses-free now st did c u free h =
       let b = h.ledger in
       let s = h.inner in
@@ -252,13 +222,13 @@ module _ {R J I : Type 0} (site : Service J I) (holds : Ledger J → I → Type 
 
   -- with a run: it is told so, if it has a client
   abbrev pub told_gone : ℕ → Bool → Move J (Both I)
-  told_gone now x = if x then tell site now seen.ClientGone Done else Done
+  told_gone now x = if x then tell (service v) now seen.ClientGone Done else Done
 
   abbrev pub tells_gone : ℕ → Move J (Both I)
-  tells_gone now = Look (λ b s. told_gone now (site.runs.waits s.run).client)
+  tells_gone now = Look (λ b s. told_gone now (v.meaning.plan.waits s.run).client)
 
   ends-same : (now : ℕ) (t : Timer) (m n : Move J (Both I)) (s : Both I) → ((b : Ledger J) → perform m b s ≡ perform n b s)
-      → (b : Ledger J) → perform (end_timer site now t m) b s ≡ perform (end_timer site now t n) b s
+      → (b : Ledger J) → perform (end_timer (service v) now t m) b s ≡ perform (end_timer (service v) now t n) b s
   ends-same now t m n s f b = by (has_number (number_of t) (numbers b.armed))
     where
       by : (c : Bool) → perform (if c then Cancel (number_of t) m else m) b s ≡ perform (if c then Cancel (number_of t) n else n) b s
@@ -266,21 +236,21 @@ module _ {R J I : Type 0} (site : Service J I) (holds : Ledger J → I → Type 
       by false = f b
 
   pub loses-busy : (now : ℕ) (st : Stage) (did : Performed J (Both I)) (c : Connection R) (u : Turn J) → (kept c.client).stage ≡ stage.Busy
-      → To (plain st) did c u (lose site now)
-      → To (plain stage.Busy) did c u (HangUp place.Client (end_timer site now timer.Body (end_timer site now timer.Send (tells_gone now))))
+      → To (plain st) did c u (lose (service v) now)
+      → To (plain stage.Busy) did c u (HangUp place.Client (end_timer (service v) now timer.Body (end_timer (service v) now timer.Send (tells_gone now))))
   loses-busy now st did c u busy h =
       let b = h.ledger in
       let s = h.inner in
       let at : s.client.stage ≡ stage.Busy = sym (ap (λ (k : Kept). k.stage) h.within.serves.client) ∙ busy in
-      let w : Within site.runs holds stands (plain stage.Busy) c u b s = subst (λ (x : Stage). Within site.runs holds stands (plain x) c u b s) (sym h.within.at ∙ at) h.within in
-      let told = told_gone now (site.runs.waits s.run).client in
+      let w : Within v (plain stage.Busy) c u b s = subst (λ (x : Stage). Within v (plain x) c u b s) (sym h.within.at ∙ at) h.within in
+      let told = told_gone now (v.meaning.plan.waits s.run).client in
       record {
         ledger = b;
         inner = s;
         within = w;
-        leads = h.leads ∙ ap (λ (x : Stage). before u.acts.items (perform (lose_at site now x s) b s)) at
+        leads = h.leads ∙ ap (λ (x : Stage). before u.acts.items (perform (lose_at (service v) now x s) b s)) at
             ∙ ap (λ (p : Performed J (Both I)). before u.acts.items (after_act_if (has place.Client b.opened) (act.HangUp place.Client) p))
-            (ends-same now timer.Body (end_timer site now timer.Send told) (end_timer site now timer.Send (tells_gone now)) s
+            (ends-same now timer.Body (end_timer (service v) now timer.Send told) (end_timer (service v) now timer.Send (tells_gone now)) s
             (ends-same now timer.Send told (tells_gone now) s (λ l. refl)) (hung_up place.Client b));
       }
 
@@ -296,16 +266,17 @@ module _ {R J I : Type 0} (site : Service J I) (holds : Ledger J → I → Type 
         leads = h.leads ∙ ap (λ (y : Bool). before u.acts.items (perform (told_gone now y) b s)) (sym (ap (λ (w : Waits). w.client) h.within.run.3) ∙ client);
       }
 
-  pub busy-at : (st : Stage) (c : Connection R) (u : Turn J) → (kept c.client).stage ≡ stage.Busy → IsAt site.runs holds stands st c u → IsAt site.runs holds stands stage.Busy c u
+  pub busy-at : (st : Stage) (c : Connection R) (u : Turn J) → (kept c.client).stage ≡ stage.Busy → IsAt v st c u → IsAt v stage.Busy c u
   busy-at st c u busy h =
       let at : st ≡ stage.Busy = sym h.2.at ∙ sym (ap (λ (k : Kept). k.stage) h.2.serves.client) ∙ busy in
-      subst (λ (x : Stage). IsAt site.runs holds stands x c u) at h
+      subst (λ (x : Stage). IsAt v x c u) at h
 
-  pub may-be-gone : (now : ℕ) (c : Connection R) → c.waits.client ≡ true → MayTell now seen.ClientGone c
-  may-be-gone now c client b r none waits = (refl, (none, sym (ap (λ (w : Waits). w.client) waits) ∙ client))
+  pub may-be-gone : (now : ℕ) (c : Connection R) → c.waits.client ≡ true → c.waits.asks ≡ None → MayTell now seen.ClientGone c
+  may-be-gone now c client asks b r none waits =
+      (refl, (record { outside = none; within = sym (ap (λ (w : Waits). w.asks) waits) ∙ asks }, sym (ap (λ (w : Waits). w.client) waits) ∙ client))
 
-  pub has-run : (c : Connection R) (u : Turn J) → IsAt site.runs holds stands stage.Busy c u → c.run ≡ None → ⊥
+  pub has-run : (c : Connection R) (u : Turn J) → IsAt v stage.Busy c u → c.run ≡ None → ⊥
   has-run c u h e = let f : None ≡ Some h.2.run.0 = sym e ∙ h.2.run.1 in cc
 
-  pub busy-is : (c : Connection R) (u : Turn J) → IsAt site.runs holds stands stage.Busy c u → (kept c.client).stage ≡ stage.Busy
+  pub busy-is : (c : Connection R) (u : Turn J) → IsAt v stage.Busy c u → (kept c.client).stage ≡ stage.Busy
   busy-is c u h = ap (λ (k : Kept). k.stage) h.2.serves.client ∙ h.2.at

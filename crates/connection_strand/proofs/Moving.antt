@@ -1,27 +1,33 @@
 -- What the connection's own moves leave.
-use Rattle.std.proofs.Common.{◌≡◌, ℕ, Bool, true, false, List, [], ◌∷◌, ◌++◌, Option, if◌then◌else◌, refl, sym, ap, ◌∙◌, subst, append_assoc}
+use Rattle.std.proofs.Common.{◌≡◌, ℕ, Bool, true, false, List, [], ◌∷◌, ◌++◌, Option, Some, None, if◌then◌else◌, refl, sym, ap, ◌∙◌, subst, append_assoc}
 use Rattle.strand_contract.specs.declared.turns.Act.{Act}
 use Rattle.strand_contract.specs.declared.turns.Act.TheVariants as act
-use Rattle.strand_plans.specs.Questions.{Question}
+use Rattle.strand_plans.specs.Questions.{Question, asking_if}
+use Rattle.strand_plans.specs.Questions as question
 use Rattle.strand_plans.specs.Ledgers.{Ledger, has_number, numbers}
-use Rattle.strand_plans.specs.Moves.{Move, Performed, with_sent, with_offer, with_deadline, without_deadline, perform}
+use Rattle.strand_plans.specs.Moves.{Move, Performed, with_deadline, without_deadline, asked_of, perform}
 use Rattle.strand_plans.specs.Moves as move
 use Rattle.strand_plans.proofs.Once.{once-disarmed, once-armed}
 use Rattle.run_contract.specs.Alike.{AreAlike}
+use Rattle.run_contract.specs.Deeds.{Deed, Asks, Nothing, Outside, ledger_by, made_by, ledger_after, made_after, ledger_asking, acts_made, made_asking}
+use Rattle.run_contract.specs.Deeds as deeds
+use Rattle.run_contract.specs.Runs.{Waits, waits_did}
 use Rattle.run_contract.specs.Conditions.{IsRun}
 use Rattle.connection_plan.specs.Clients.{Stage, Client}
 use Rattle.connection_plan.specs.Clients as stage
 use Rattle.connection_plan.specs.Services.{Service, Both}
 use Rattle.connection_plan.specs.Timers.{Timer, number_of, time_of, later}
 use Rattle.connection_plan.specs.Turns.{is_there, begin_timer, end_timer}
-use Rattle.connection_plan.specs.Conditions.{Agrees}
-use Rattle.connection_plan.proofs.Alike.{blank-alike, armed-alike, cancelled-alike}
-use Rattle.connection_plan.proofs.Steps.{own-number}
-use Rattle.connection_plan.proofs.Stays.{agrees-alike}
+use Rattle.connection_plan.specs.Conditions.{AgreesWithin}
+use Rattle.connection_plan.proofs.Alike.{blank-alike}
+use Rattle.connection_plan.proofs.Lifted.{SameRun, deed-same, made-same}
+use Rattle.connection_plan.proofs.Steps.{own-number, armed-same, cancelled-same}
+use Rattle.connection_plan.proofs.Stays.{within-alike}
+use Rattle.connection_strand.specs.Views.{View, service}
 use Rattle.connection_strand.specs.declared.state.Connection.{Connection}
 use Rattle.connection_strand.specs.declared.state.Turn.{Turn}
-use Rattle.connection_strand.specs.Kept.{Kept, kept, with_armed, is_armed}
-use Rattle.connection_strand.specs.Standing.{Moment, HasRun, Serves, Within, Toward, before, asking, places}
+use Rattle.connection_strand.specs.Kept.{Kept, kept, waits_of, with_armed, is_armed}
+use Rattle.connection_strand.specs.Standing.{Moment, HasRun, Serves, Within, Toward, before, at_end, made_of, places}
 use Rattle.connection_strand.proofs.Deadlines.{is-armed, arms, disarms}
 
 -- all but the client is as it was
@@ -33,18 +39,47 @@ pub record IsSameRun {R : Type 0} (c c' : Connection R) : Type 0 where
   pub keeping : c'.keeping ≡ c.keeping
   pub taking : c'.is_taking ≡ c.is_taking
 
--- a question more is asked of ledgers that are alike
-pub asking-same : {J : Type 0} (q : Option (Question J)) (b c : Ledger J) → AreAlike b c → AreAlike (asking q b) (asking q c)
-asking-same q b c h = record {
-  threads = h.threads;
-  armed = h.armed;
-  put_off = h.put_off;
-  taken = h.taken;
-  sent = h.sent;
-  opened = h.opened;
-  count = h.count;
-  asked = refl;
+-- ---- what is still to be done of the run's turn, in ledgers that are the same to the run
+
+deeds-same : {J : Type 0} (ds : List Deed) (b c : Ledger J) → SameRun b c → SameRun (ledger_after ds b) (ledger_after ds c)
+deeds-same [] b c x = x
+deeds-same (d ∷ ds) b c x = deeds-same ds (ledger_by d b) (ledger_by d c) (deed-same d b c x)
+
+asked-same : {J : Type 0} (q : Question J) (b c : Ledger J) → SameRun b c → asked_of q b ≡ asked_of q c
+asked-same (question.Keep k key idle size) b c x = ap (λ (o : Bool). if o then Some (question.Keep k key idle size) else None) (x.alike.opened k)
+asked-same q b c x = refl
+
+asking-same : {J : Type 0} (a : Asks J) (b c : Ledger J) → SameRun b c → AreAlike (ledger_asking a b) (ledger_asking a c)
+asking-same Nothing b c x = x.alike
+asking-same (deeds.Within q) b c x = x.alike
+asking-same (Outside q) b c x = record {
+  threads = x.alike.threads;
+  armed = x.alike.armed;
+  put_off = x.alike.put_off;
+  taken = x.alike.taken;
+  sent = x.alike.sent;
+  opened = x.alike.opened;
+  count = x.alike.count;
+  asked = asked-same q b c x;
 }
+
+at_end-same : {J : Type 0} (e : Moment J) (b c : Ledger J) → SameRun b c → AreAlike (at_end e b) (at_end e c)
+at_end-same e b c x = asking-same e.asks (ledger_after e.does b) (ledger_after e.does c) (deeds-same e.does b c x)
+
+made-after-same : {J : Type 0} (ds : List Deed) (b c : Ledger J) → SameRun b c → made_after ds b ≡ made_after ds c
+made-after-same [] b c x = refl
+made-after-same (d ∷ ds) b c x =
+    ap (λ xs. xs ++ made_after ds (ledger_by d b)) (made-same d b c x) ∙ ap (λ xs. made_by d c ++ xs) (made-after-same ds (ledger_by d b) (ledger_by d c) (deed-same d b c x))
+
+made-asking-same : {J : Type 0} (a : Asks J) (b c : Ledger J) → SameRun b c → made_asking a b ≡ made_asking a c
+made-asking-same Nothing b c x = refl
+made-asking-same (deeds.Within q) b c x = refl
+made-asking-same {J} (Outside q) b c x = ap (λ (o : Option (Question J)). acts_made (asking_if o)) (asked-same q b c x)
+
+made-of-same : {J : Type 0} (e : Moment J) (b c : Ledger J) → SameRun b c → made_of e b ≡ made_of e c
+made-of-same e b c x =
+    ap (λ xs. xs ++ made_asking e.asks (ledger_after e.does b)) (made-after-same e.does b c x)
+    ∙ ap (λ xs. made_after e.does c ++ xs) (made-asking-same e.asks (ledger_after e.does b) (ledger_after e.does c) (deeds-same e.does b c x))
 
 -- the acts so far, and one more
 pub one-more : {J S : Type 0} (acts acts' : List (Act J)) (a : Act J) (did done : Performed J S) → acts' ≡ acts ++ a ∷ []
@@ -52,47 +87,51 @@ pub one-more : {J S : Type 0} (acts acts' : List (Act J)) (a : Act J) (did done 
 one-more acts acts' a did done e h =
     h ∙ ap (λ xs. record { state = done.state; acts = xs }) (sym (append_assoc acts (a ∷ []) done.acts) ∙ ap (λ xs. xs ++ done.acts) (sym e))
 
-module _ {R J I : Type 0} (site : Service J I) (holds : Ledger J → I → Type 0) (stands : R → Ledger J → I → Type 0)
-    (lawful : IsRun site.runs holds) (apart : (x : R) (b c : Ledger J) (r : I) → AreAlike b c → stands x b r → stands x c r) where
-  pub run-alike : (st : Stage) (c c' : Connection R) (b b' : Ledger J) (r : I) → c'.run ≡ c.run → c'.waits ≡ c.waits → AreAlike b b'
-      → HasRun site.runs stands st c b r → HasRun site.runs stands st c' b' r
-  run-alike stage.Busy c c' b b' r e f same h = (h.0, e ∙ h.1, apart h.0 b b' r same h.2, ap (λ w. record { body = w.body; taken = w.taken; client = w.client }) f ∙ h.3)
-  run-alike stage.Idle c c' b b' r e f same h = tt
-  run-alike stage.Head c c' b b' r e f same h = tt
-  run-alike stage.Flush c c' b b' r e f same h = tt
-  run-alike stage.Drop c c' b b' r e f same h = tt
-  run-alike stage.Over c c' b b' r e f same h = tt
+module _ {R J I : Type 0} (v : View R J I)
+    (lawful : IsRun v.meaning.plan v.meaning.holds) (apart : (x : R) (b c : Ledger J) (r : I) → AreAlike b c → v.meaning.stands x b r → v.meaning.stands x c r) where
+  pub run-alike : (st : Stage) (o p : Option R) (w x : Waits) (b c : Ledger J) (r : I) → p ≡ o → x ≡ w → AreAlike b c → HasRun v st o w b r → HasRun v st p x c r
+  run-alike stage.Busy o p w x b c r e f same h = (h.0, e ∙ h.1, apart h.0 b c r same h.2, f ∙ h.3)
+  run-alike stage.Idle o p w x b c r e f same h = tt
+  run-alike stage.Head o p w x b c r e f same h = tt
+  run-alike stage.Flush o p w x b c r e f same h = tt
+  run-alike stage.Drop o p w x b c r e f same h = tt
+  run-alike stage.Over o p w x b c r e f same h = tt
 
-  -- what concerns only the client leaves what is known of the run
+  -- what concerns only the client leaves what is known of the run, and what is left of its turn
   pub stays-within : (e : Moment J) (c c' : Connection R) (u u' : Turn J) (b b' : Ledger J) (s s' : Both I)
-      → Within site.runs holds stands e c u b s → AreAlike b b' → s'.run ≡ s.run → s'.client.stage ≡ s.client.stage → c'.run ≡ c.run → c'.waits ≡ c.waits
-      → Serves c' u' b' s' → Within site.runs holds stands e c' u' b' s'
+      → Within v e c u b s → SameRun b b' → s'.run ≡ s.run → s'.client.stage ≡ s.client.stage → c'.run ≡ c.run → c'.waits ≡ c.waits
+      → Serves c' u' b' s' → Within v e c' u' b' s'
   stays-within e c c' u u' b b' s s' h same run st crun waits serves =
-      let alike = asking-same e.asks b b' same in record {
+      let alike = at_end-same e b b' same in
+      let w : Waits = waits_did e.does (waits_of c'.waits) in
+      record {
         serves = serves;
         at = st ∙ h.at;
-        run = subst (λ r. HasRun site.runs stands e.stage c' (asking e.asks b') r) (sym run) (run-alike e.stage c c' (asking e.asks b) (asking e.asks b') s.run crun waits alike h.run);
-        known = subst (λ r. Agrees holds e.stage (asking e.asks b') r) (sym run) (agrees-alike site 0 holds lawful e.stage (asking e.asks b) (asking e.asks b') s.run alike h.known);
-        blank = λ over. blank-alike (asking e.asks b) (asking e.asks b') alike (h.blank over);
+        run = subst (λ r. HasRun v e.stage c'.run w (at_end e b') r) (sym run)
+            (run-alike e.stage c.run c'.run (waits_did e.does (waits_of c.waits)) w (at_end e b) (at_end e b') s.run crun (ap (λ x. waits_did e.does (waits_of x)) waits) alike h.run);
+        known = subst (λ r. AgreesWithin v.meaning.holds e.stage (at_end e b') r) (sym run)
+            (within-alike (service v) 0 v.meaning.holds lawful e.stage (at_end e b) (at_end e b') s.run alike h.known);
+        blank = λ over. blank-alike (at_end e b) (at_end e b') alike (h.blank over);
+        made = h.made ∙ made-of-same e b b' same;
       }
 
   -- ---- timers
 
   pub begins : (now : ℕ) (t : Timer) (e : Moment J) (did : Performed J (Both I)) (c c' : Connection R) (u u' : Turn J) (m : Move J (Both I)) (time : ℕ)
       → IsSameRun c c' → kept c'.client ≡ with_armed t true (kept c.client) → u'.is_offered ≡ u.is_offered
-      → time ≡ time_of site.default_times (kept c.client).times t → u'.acts.items ≡ u.acts.items ++ act.Arm (number_of t) (later now time) ∷ []
-      → Toward site.runs holds stands e did c u (begin_timer site now t m) → Toward site.runs holds stands e did c' u' m
+      → time ≡ time_of v.serving.default_times (kept c.client).times t → u'.acts.items ≡ u.acts.items ++ act.Arm (number_of t) (later now time) ∷ []
+      → Toward v e did c u (begin_timer (service v) now t m) → Toward v e did c' u' m
   begins now t e did c c' u u' m time same armed offered times acts h =
       let b = h.ledger in
       let s = h.inner in
       let w = h.within.serves in
-      let at = later now (time_of site.default_times s.client.times t) in
+      let at = later now (time_of v.serving.default_times s.client.times t) in
       let b' = with_deadline (number_of t) at b in
-      let is : time ≡ time_of site.default_times s.client.times t = times ∙ ap (λ (k : Kept). time_of site.default_times k.times t) w.client in
+      let is : time ≡ time_of v.serving.default_times s.client.times t = times ∙ ap (λ (k : Kept). time_of v.serving.default_times k.times t) w.client in
       record {
         ledger = b';
         inner = s;
-        within = stays-within e c c' u u' b b' s s h.within (armed-alike (number_of t) at b (own-number t)) refl refl same.run same.waits (record {
+        within = stays-within e c c' u u' b b' s s h.within (armed-same (number_of t) at b (own-number t)) refl refl same.run same.waits (record {
           client = armed ∙ ap (with_armed t true) w.client ∙ arms t at b s.client;
           sockets = w.sockets ∙ ap (places (is_there b)) (sym same.sockets);
           count = same.count ∙ w.count;
@@ -111,7 +150,7 @@ module _ {R J I : Type 0} (site : Service J I) (holds : Ledger J → I → Type 
   pub ends-armed : (now : ℕ) (t : Timer) (e : Moment J) (did : Performed J (Both I)) (c c' : Connection R) (u u' : Turn J) (m : Move J (Both I))
       → IsSameRun c c' → is_armed t (kept c.client) ≡ true → kept c'.client ≡ with_armed t false (kept c.client) → u'.is_offered ≡ u.is_offered
       → u'.acts.items ≡ u.acts.items ++ act.Cancel (number_of t) ∷ []
-      → Toward site.runs holds stands e did c u (end_timer site now t m) → Toward site.runs holds stands e did c' u' m
+      → Toward v e did c u (end_timer (service v) now t m) → Toward v e did c' u' m
   ends-armed now t e did c c' u u' m same armed cancels offered acts h =
       let b = h.ledger in
       let s = h.inner in
@@ -121,7 +160,7 @@ module _ {R J I : Type 0} (site : Service J I) (holds : Ledger J → I → Type 
       record {
         ledger = b';
         inner = s;
-        within = stays-within e c c' u u' b b' s s h.within (cancelled-alike (number_of t) b (own-number t)) refl refl same.run same.waits (record {
+        within = stays-within e c c' u u' b b' s s h.within (cancelled-same (number_of t) b (own-number t)) refl refl same.run same.waits (record {
           client = cancels ∙ ap (with_armed t false) w.client ∙ disarms t b s.client w.once;
           sockets = w.sockets ∙ ap (places (is_there b)) (sym same.sockets);
           count = same.count ∙ w.count;
@@ -138,7 +177,7 @@ module _ {R J I : Type 0} (site : Service J I) (holds : Ledger J → I → Type 
       }
 
   pub ends-unarmed : (now : ℕ) (t : Timer) (e : Moment J) (did : Performed J (Both I)) (c : Connection R) (u : Turn J) (m : Move J (Both I))
-      → is_armed t (kept c.client) ≡ false → Toward site.runs holds stands e did c u (end_timer site now t m) → Toward site.runs holds stands e did c u m
+      → is_armed t (kept c.client) ≡ false → Toward v e did c u (end_timer (service v) now t m) → Toward v e did c u m
   ends-unarmed now t e did c u m armed h =
       let b = h.ledger in
       let s = h.inner in

@@ -16,6 +16,7 @@ use Rattle.run_contract.specs.Conditions.{IsRun}
 use Rattle.connection_plan.specs.Clients.{Stage}
 use Rattle.connection_plan.specs.Services.{Service, Both}
 use Rattle.connection_plan.specs.Turns.{heard_by, next}
+use Rattle.connection_strand.specs.Views.{View, service}
 use Rattle.connection_strand.specs.declared.state.Connection.{Connection}
 use Rattle.connection_strand.specs.declared.state.Turn.{Turn}
 use Rattle.connection_strand.specs.Kept.{Kept, kept}
@@ -44,11 +45,11 @@ fed-answered before after piece answer h =
     let e = fed-only before after piece answer h in
     subst (λ (f : Fed). IsAnswered f.answer f.after.at) (sym e) (led-answered _ _)
 
-module _ {R J I : Type 0} (site : Service J I) (holds : Ledger J → I → Type 0) (stands : R → Ledger J → I → Type 0)
-    (lawful : IsRun site.runs holds) (apart : (x : R) (b c : Ledger J) (r : I) → AreAlike b c → stands x b r → stands x c r) where
+module _ {R J I : Type 0} (v : View R J I)
+    (lawful : IsRun v.meaning.plan v.meaning.holds) (apart : (x : R) (b c : Ledger J) (r : I) → AreAlike b c → v.meaning.stands x b r → v.meaning.stands x c r) where
   pub nexts : (now : ℕ) (answer : LineOut) (st : Stage) (did : Performed J (Both I)) (c c' : Connection R) (u : Turn J) (m : Move J (Both I)) → IsSameRun c c'
       → IsFed (done (kept c.client).came) [] answer (kept c'.client).came → kept c'.client ≡ record (kept c.client) { came = (kept c'.client).came }
-      → To site holds stands (plain st) did c u (Look (λ b s. next site now m s.client)) → Heard site holds stands now true m answer (plain st) did c' u
+      → To v (plain st) did c u (Look (λ b s. next (service v) now m s.client)) → Heard v now true m answer (plain st) did c' u
   nexts now answer st did c c' u m same is client h =
       let s = h.inner in
       let f = fed (done s.client.came) [] in
@@ -56,8 +57,8 @@ module _ {R J I : Type 0} (site : Service J I) (holds : Ledger J → I → Type 
       let e : record { answer = answer; after = (kept c'.client).came } ≡ f =
       fed-only (done (kept c.client).came) (kept c'.client).came [] answer is ∙ ap (λ (k : Came). fed (done k) []) came in
       let after : (kept c'.client).came ≡ f.after = ap (λ (x : Fed). x.after) e in
-      let rest = heard_by site now true m f.after s.client.ended f.answer in
-      let g = changes site holds stands lawful apart (λ k. record k { came = f.after }) (λ k. record k { came = f.after }) (plain st) did c c' u rest
+      let rest = heard_by (service v) now true m f.after s.client.ended f.answer in
+      let g = changes v lawful apart (λ k. record k { came = f.after }) (λ k. record k { came = f.after }) (plain st) did c c' u rest
       (λ b x. refl) (λ x. refl) same (client ∙ ap (λ k. record (kept c.client) { came = k }) after)
       (record { ledger = h.ledger; inner = s; within = h.within; leads = h.leads }) in
       let ended : s.client.ended ≡ g.inner.client.ended =
@@ -66,5 +67,5 @@ module _ {R J I : Type 0} (site : Service J I) (holds : Ledger J → I → Type 
         ledger = g.ledger;
         inner = g.inner;
         within = g.within;
-        leads = g.leads ∙ (λ i. before u.acts.items (perform (heard_by site now true m ((sym after ∙ ap (λ (k : Kept). k.came) g.within.serves.client) i) (ended i) (sym (ap (λ (x : Fed). x.answer) e) i)) g.ledger g.inner));
+        leads = g.leads ∙ (λ i. before u.acts.items (perform (heard_by (service v) now true m ((sym after ∙ ap (λ (k : Kept). k.came) g.within.serves.client) i) (ended i) (sym (ap (λ (x : Fed). x.answer) e) i)) g.ledger g.inner));
       }

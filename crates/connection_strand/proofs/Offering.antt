@@ -1,5 +1,5 @@
 -- What is sent to the client, and offers of it.
-use Rattle.std.proofs.Common.{◌≡◌, ℕ, ◌≤◌, ◌%◌, zero, suc, Bool, true, false, not, ◌&&◌, ◌||◌, List, [], ◌∷◌, ◌++◌, length, drop, if◌then◌else◌, refl, sym, ap, ◌∙◌, append-nil, arith, length-append}
+use Rattle.std.proofs.Common.{◌≡◌, ℕ, ◌≤◌, ◌%◌, zero, suc, Bool, true, false, not, ◌&&◌, ◌||◌, List, [], ◌∷◌, ◌++◌, length, drop, if◌then◌else◌, refl, sym, ap, ◌∙◌, append-nil, arith, length-append, subst}
 use Rattle.send_queue.specs.Records.{Sending}
 use Rattle.send_queue.specs.Queues as queues
 use Rattle.strand_contract.specs.declared.turns.Act.TheVariants as act
@@ -17,6 +17,9 @@ use Rattle.connection_plan.specs.Clients.{with_more}
 use Rattle.connection_plan.specs.Services.{Service, Both}
 use Rattle.connection_plan.specs.Turns.{is_there, change, send}
 use Rattle.connection_plan.proofs.Alike.{sent-alike}
+use Rattle.connection_plan.proofs.Lifted.{SameRun}
+use Rattle.connection_plan.proofs.Steps.{sent-to-client-same}
+use Rattle.connection_strand.specs.Views.{View, service}
 use Rattle.connection_strand.specs.declared.state.Connection.{Connection}
 use Rattle.connection_strand.specs.declared.state.Turn.{Turn}
 use Rattle.connection_strand.specs.Kept.{Kept, kept, kept_of, sending_of, wants_offer}
@@ -51,10 +54,10 @@ pub and-none : (c d : Bool) → d ≡ false → (c && d) ≡ false
 and-none true d h = h
 and-none false d h = refl
 
-module _ {R J I : Type 0} (site : Service J I) (holds : Ledger J → I → Type 0) (stands : R → Ledger J → I → Type 0)
-    (lawful : IsRun site.runs holds) (apart : (x : R) (b c : Ledger J) (r : I) → AreAlike b c → stands x b r → stands x c r) where
+module _ {R J I : Type 0} (v : View R J I)
+    (lawful : IsRun v.meaning.plan v.meaning.holds) (apart : (x : R) (b c : Ledger J) (r : I) → AreAlike b c → v.meaning.stands x b r → v.meaning.stands x c r) where
   abbrev pub To : Moment J → Performed J (Both I) → Connection R → Turn J → Move J (Both I) → Type 0
-  To e did c u m = Toward site.runs holds stands e did c u m
+  To e did c u m = Toward v e did c u m
 
   is-wanted : (c : Connection R) (u : Turn J) (b : Ledger J) (s : Both I) → Serves c u b s → ledgers.wants_offer place.Client b ≡ (wants_offer (kept c.client) && not u.is_offered)
   is-wanted c u b s w =
@@ -62,7 +65,7 @@ module _ {R J I : Type 0} (site : Service J I) (holds : Ledger J → I → Type 
       ∙ ap (λ x. (x && not (b.put_off place.Client)) && not u.is_offered) (sym (left-there (is_there b) (left_at place.Client b)))
       ∙ ap (λ (k : Kept). wants_offer k && not u.is_offered) (sym w.client)
 
-  offered-leads : (e : Moment J) (did : Performed J (Both I)) (c : Connection R) (u : Turn J) (m : Move J (Both I)) (h : Toward site.runs holds stands e did c u (Send place.Client [] m))
+  offered-leads : (e : Moment J) (did : Performed J (Both I)) (c : Connection R) (u : Turn J) (m : Move J (Both I)) (h : Toward v e did c u (Send place.Client [] m))
       → (x : Bool) → ledgers.wants_offer place.Client h.ledger ≡ x
       → did ≡ before u.acts.items (after_act_if x (act.Offer place.Client) (perform m (with_offer place.Client h.ledger) h.inner))
   offered-leads e did c u m h x is =
@@ -70,8 +73,8 @@ module _ {R J I : Type 0} (site : Service J I) (holds : Ledger J → I → Type 
       ∙ ap (λ (d : Ledger J). before u.acts.items (after_act_if (ledgers.wants_offer place.Client d) (act.Offer place.Client) (perform m (with_offer place.Client d) h.inner))) (sends-nothing place.Client h.ledger)
       ∙ ap (λ y. before u.acts.items (after_act_if y (act.Offer place.Client) (perform m (with_offer place.Client h.ledger) h.inner))) is
 
-  offer-alike : (b : Ledger J) → AreAlike b (with_offer place.Client b)
-  offer-alike b = record { threads = refl; armed = refl; put_off = λ k. refl; taken = λ k. refl; sent = λ k. refl; opened = λ k. refl; count = refl; asked = refl }
+  offer-same : (b : Ledger J) → SameRun b (with_offer place.Client b)
+  offer-same b = subst (λ (d : Ledger J). SameRun b (with_offer place.Client d)) (sends-nothing place.Client b) (sent-to-client-same [] b)
 
   -- the offer is asked for
   pub offers : (e : Moment J) (did : Performed J (Both I)) (c c' : Connection R) (u u' : Turn J) (m : Move J (Both I))
@@ -87,7 +90,7 @@ module _ {R J I : Type 0} (site : Service J I) (holds : Ledger J → I → Type 
       record {
         ledger = b';
         inner = s;
-        within = stays-within site holds stands lawful apart e c c' u u' b b' s s h.within (offer-alike b) refl refl same.run same.waits (record {
+        within = stays-within v lawful apart e c c' u u' b b' s s h.within (offer-same b) refl refl same.run same.waits (record {
           client = client ∙ w.client;
           sockets = w.sockets ∙ ap (places (is_there b)) (sym same.sockets);
           count = same.count ∙ w.count;
@@ -142,14 +145,17 @@ module _ {R J I : Type 0} (site : Service J I) (holds : Ledger J → I → Type 
       by true = omega (arith, h, length-append (b.sent place.Client) bytes)
       by false = h
 
-  sent-only : (b : Ledger J) (bytes : List ℕ) → AreAlike b (with_sent place.Client bytes b)
-  sent-only b bytes = let a = sent-alike bytes b in
-      record { threads = a.threads; armed = a.armed; put_off = a.put_off; taken = a.taken; sent = a.sent; opened = a.opened; count = a.count; asked = a.asked }
+  sent-only : (b : Ledger J) (bytes : List ℕ) → SameRun b (with_sent place.Client bytes b)
+  sent-only b bytes = let a = sent-alike bytes b in record {
+    alike = record { threads = a.threads; armed = a.armed; put_off = a.put_off; taken = a.taken; sent = a.sent; opened = a.opened; count = a.count; asked = a.asked };
+    places = λ k. refl;
+    begun = λ k. refl;
+  }
 
   -- bytes are queued, before an offer is asked for
   pub queues-more : (e : Moment J) (did : Performed J (Both I)) (c c' : Connection R) (u : Turn J) (bytes : List ℕ) (m : Move J (Both I))
       → IsSameRun c c' → c.client.is_open ≡ true → kept c'.client ≡ record (kept c.client) { sending = queues.queued (kept c.client).sending bytes }
-      → To e did c u (send site 0 bytes m) → To e did c' u (Send place.Client [] m)
+      → To e did c u (send (service v) 0 bytes m) → To e did c' u (Send place.Client [] m)
   queues-more e did c c' u bytes m same opened client h =
       let b = h.ledger in
       let s = h.inner in
@@ -160,7 +166,7 @@ module _ {R J I : Type 0} (site : Service J I) (holds : Ledger J → I → Type 
       record {
         ledger = b';
         inner = s';
-        within = stays-within site holds stands lawful apart e c c' u u b b' s s' h.within (sent-only b bytes) refl refl same.run same.waits (record {
+        within = stays-within v lawful apart e c c' u u b b' s s' h.within (sent-only b bytes) refl refl same.run same.waits (record {
           client = client ∙ ap (λ (k : Kept). record k { sending = queues.queued k.sending bytes }) w.client
               ∙ ap (λ (q : Sending). record (kept_of b s.client) { sending = q }) (sent-more b bytes there w.counted);
           sockets = w.sockets ∙ ap (places (is_there b)) (sym same.sockets);
@@ -180,7 +186,7 @@ module _ {R J I : Type 0} (site : Service J I) (holds : Ledger J → I → Type 
 
   -- a client that isn't there is sent nothing
   pub queues-not : (e : Moment J) (did : Performed J (Both I)) (c : Connection R) (u : Turn J) (bytes : List ℕ) (m : Move J (Both I))
-      → c.client.is_open ≡ false → To e did c u (send site 0 bytes m) → To e did c u m
+      → c.client.is_open ≡ false → To e did c u (send (service v) 0 bytes m) → To e did c u m
   queues-not e did c u bytes m shut h =
       let b = h.ledger in
       let s = h.inner in

@@ -1,20 +1,21 @@
 -- What pays for words and turns of a run, and for requests that are held.
 use Rattle.std.specs.Prelude.{filter, ◌^◌}
 use Rattle.std.proofs.Common.{◌≡◌, ℕ, ◌≤◌, ◌<◌, ◌+◌, ◌-◌, ◌*◌, ◌==◌, Bool, true, false, not, List, [], ◌∷◌, ◌++◌, length, take, drop, Option, Some, None, if◌then◌else◌, refl, sym, ap, ◌∙◌, subst, arith, length-append}
-use Rattle.std.proofs.lemmas.List.{take_all}
 use Rattle.strand_contract.specs.declared.turns.Act.{Act}
 use Rattle.strand_contract.specs.declared.turns.Act.TheVariants as act
 use Rattle.strand_contract.specs.declared.turns.Place.TheVariants as place
-use Rattle.run_contract.specs.declared.turns.Said.{Said}
+use Rattle.run_contract.specs.declared.turns.RunAct.{RunAct}
+use Rattle.run_contract.specs.declared.turns.Asking.{Asking}
 use Rattle.connection_plan.specs.Clients.{Reply, Unsent, Begun, Whole, begun, is_last, Times}
 use Rattle.connection_plan.specs.Clients as stage
 use Rattle.connection_strand.specs.declared.state.Connection.{Connection}
 use Rattle.connection_strand.specs.declared.state.Turn.{Turn}
 use Rattle.connection_strand.specs.Kept.{kept}
-use Rattle.connection_strand.specs.Acts.{is_question, done_of, question_in, without_all, sockets_after}
-use Rattle.connection_strand.specs.Turns.{Asks}
+use Rattle.connection_strand.specs.Acts.{sockets_after}
+use Rattle.connection_strand.specs.Turns.{with_asks}
 use Rattle.connection_strand.specs.Costs.{unit, weight_if, client_left, run_left, units, whole, Spends, Pays}
 use Rattle.connection_strand.proofs.Costing.{spends-client, one-longer}
+use Rattle.connection_strand.proofs.Parts.{TookAct}
 
 -- ---- units
 
@@ -25,10 +26,6 @@ unit-holds n h = omega arith
 pub unit-some : (n : ℕ) → n ≤ 406 → n ≤ unit
 unfolding unit
 unit-some n h = omega arith
-
-unit-over : (n : ℕ) → n ≤ unit * n
-unfolding unit
-unit-over n = omega arith
 
 unit-and : (m n : ℕ) → unit * (m + n) ≡ unit * m + unit * n
 unfolding unit
@@ -61,33 +58,9 @@ filter-fewer f (x ∷ xs) = by (filter-fewer f xs) (f x)
     by h true = omega arith
     by h false = omega arith
 
-module _ {J : Type 0} where
-  sockets-fewer : (acts : List (Act J)) (socks : List ℕ) → length (sockets_after acts socks) ≤ length socks
-  sockets-fewer [] socks = omega arith
-  sockets-fewer (act.HangUp (place.Sock k) ∷ acts) socks =
-      let h = sockets-fewer acts (without_all k socks) in let f = filter-fewer (λ j. not (j == k)) socks in omega arith
-  sockets-fewer (a ∷ acts) socks = sockets-fewer acts socks
-
-  pub done-all : (acts : List (Act J)) → length (done_of acts) ≤ length acts
-  done-all [] = omega arith
-  done-all (a ∷ acts) = by (done-all acts) (is_question a)
-    where
-      by : length (done_of acts) ≤ length acts → (o : Bool) → length (if o then [] else a ∷ done_of acts) ≤ length (a ∷ acts)
-      by h true = omega arith
-      by h false = omega arith
-
-  pub done-asking : (acts : List (Act J)) (q : Act J) → question_in acts ≡ Some q → length (done_of acts) + 1 ≤ length acts
-  done-asking [] q e = absurd (let f : None ≡ Some q = e in cc)
-  done-asking (a ∷ acts) q e = by (done-asking acts q) (is_question a) e
-    where
-      by : (question_in acts ≡ Some q → length (done_of acts) + 1 ≤ length acts) → (o : Bool) → (if o then Some a else question_in acts) ≡ Some q
-          → length (if o then [] else a ∷ done_of acts) + 1 ≤ length (a ∷ acts)
-      by f true e = omega arith
-      by f false e = let h = f e in omega arith
-
-pub rest-shorter : {A : Type 0} (xs : List A) → 1 ≤ length xs → length (take (length xs - 1) (drop 1 xs)) + 1 ≤ length xs
-rest-shorter [] some = absurd (omega (arith, some))
-rest-shorter (x ∷ xs) some = let e = ap length (take_all (length (x ∷ xs) - 1) xs (omega arith)) in omega arith
+pub sockets-fewer : {J : Type 0} (a : Act J) (socks : List ℕ) → length (sockets_after a socks) ≤ length socks
+sockets-fewer (act.HangUp (place.Sock k)) socks = filter-fewer (λ j. not (j == k)) socks
+sockets-fewer a socks = omega arith
 
 begun-last : (r : Reply) → is_last (begun r) ≡ is_last r
 begun-last Unsent = refl
@@ -108,55 +81,38 @@ module _ {R J : Type 0} (left : R → ℕ) (bound : ℕ) where
       (ap (λ (b : Bool). run_left left bound c.run + length k.came.held * (bound + 2) + weight_if (not b) 1) (begun-last k.reply)) (omega arith) in
       omega arith
 
-  -- the words so far are paid for
-  abbrev pub Saying : List Said → Connection R → Turn J → List Said → Connection R → Turn J → Type 0
-  Saying words c u rest c' u' = whole left bound c' + length u'.acts.items + unit * length rest ≤ whole left bound c + length u.acts.items + unit * length words
-
-  pub says-first : (words : List Said) (c : Connection R) (u : Turn J) → Saying words c u words c u
-  says-first words c u = omega arith
-
-  pub says-on : (words rest more : List Said) (c d e : Connection R) (u v w : Turn J) → length more + 1 ≤ length rest → Saying words c u rest d v → Spends left bound unit d v e w
-      → Saying words c u more e w
-  says-on words rest more c d e u v w l h k = let f = unit-one (length more) (length rest) l in omega arith
-
-  pub says-last : (words rest : List Said) (c d e : Connection R) (u v w : Turn J) → 1 ≤ length rest → Saying words c u rest d v → Spends left bound unit d v e w
-      → Spends left bound (unit * length words) c u e w
-  says-last words rest c d e u v w l h k = let f = unit-one 0 (length rest) l in omega arith
-
-  pub says-all : (words rest : List Said) (c d : Connection R) (u v : Turn J) → Saying words c u rest d v → Spends left bound (unit * length words) c u d v
-  says-all words rest c d u v h = omega arith
+  -- what is counted is as it was
+  pub spends-same : (n : ℕ) (c d c' : Connection R) (u u' : Turn J) → d.run ≡ c.run → d.sockets.items ≡ c.sockets.items → units left bound (kept d.client) c.run ≡ units left bound (kept c.client) c.run
+      → client_left (kept d.client) ≡ client_left (kept c.client) → Spends left bound n d u c' u' → Spends left bound n c u c' u'
+  spends-same n c d c' u u' run socks same less h =
+      let f : Spends left bound 0 c u d u = spends-client left bound 0 c d u u (kept d.client) refl run socks same (omega (arith, less)) in
+      omega arith
 
   -- ---- turns of a run
 
-  pub carries : (acts : List (Act J)) (c d : Connection R) (u v : Turn J) → d.client ≡ c.client → d.run ≡ c.run → d.sockets.items ≡ sockets_after (done_of acts) c.sockets.items
-      → v.acts.items ≡ u.acts.items ++ done_of acts → Spends left bound (length (done_of acts)) c u d v
-  carries acts c d u v client run socks made =
-      let e : whole left bound d ≡ unit * units left bound (kept c.client) c.run + client_left (kept c.client) + 2 * length d.sockets.items + 2 =
-      λ i. unit * units left bound (kept (client i)) (run i) + client_left (kept (client i)) + 2 * length d.sockets.items + 2 in
-      let f = sockets-fewer (done_of acts) c.sockets.items in
-      let g = ap length socks in
-      let l = ap length made ∙ length-append u.acts.items (done_of acts) in
+  -- an act
+  pub act-costs : (a : Act J) (c c' : Connection R) (u u' : Turn J) → TookAct a c c' u u' → Spends left bound 1 c u c' u'
+  act-costs a c c' u u' x =
+      let e : whole left bound c' ≡ unit * units left bound (kept c.client) c.run + client_left (kept c.client) + 2 * length c'.sockets.items + 2 =
+      ap (λ (k : Connection R). unit * units left bound (kept k.client) k.run + client_left (kept k.client) + 2 * length c'.sockets.items + 2) x.kept in
+      let f = sockets-fewer a c.sockets.items in
+      let g = ap length x.sockets in
+      let l = one-longer u.acts.items u'.acts.items a x.acts in
       omega arith
 
-  pub takes-on : (acts : List (Act J)) (said : List Said) (c d c' : Connection R) (u v u' : Turn J) → Spends left bound (length (done_of acts)) c u d v
-      → Spends left bound (unit * length said) d v c' u' → Spends left bound (unit * (length acts + length said)) c u c' u'
-  takes-on acts said c d c' u v u' h k =
-      let e = unit-and (length acts) (length said) in let f = unit-over (length acts) in let g = done-all acts in omega arith
+  -- what was taken of it so far is paid for
+  abbrev pub Taking : List (RunAct J) → Connection R → Turn J → List (RunAct J) → Connection R → Turn J → Type 0
+  Taking parts c u rest c' u' = whole left bound c' + length u'.acts.items + unit * length rest ≤ whole left bound c + length u.acts.items + unit * length parts
 
-  pub takes-asking : (acts : List (Act J)) (said : List Said) (q : Act J) (c d c' : Connection R) (u v u' w : Turn J) → question_in acts ≡ Some q
-      → Spends left bound (length (done_of acts)) c u d v → Spends left bound (unit * length said) d v c' u' → w.acts.items ≡ u'.acts.items ++ q ∷ []
-      → Spends left bound (unit * (length acts + length said)) c u c' w
-  takes-asking acts said q c d c' u v u' w asks h k last =
-      let e = unit-and (length acts) (length said) in let f = unit-over (length acts) in let g = done-asking acts q asks in let l = one-longer u'.acts.items w.acts.items q last in omega arith
+  pub takes-first : (parts : List (RunAct J)) (q : Option Asking) (c : Connection R) (u : Turn J) → Taking parts c u parts (with_asks q c) u
+  takes-first parts q c u = omega arith
 
-  pub takes-costs : (acts : List (Act J)) (said : List Said) (on : Bool) (q : Option (Act J)) (c d c' e : Connection R) (u v u' w : Turn J) → q ≡ question_in acts
-      → Spends left bound (length (done_of acts)) c u d v → Spends left bound (unit * length said) d v c' u' → Asks on q c' u' e w
-      → Spends left bound (unit * (length acts + length said)) c u e w
-  takes-costs acts said true q c d c' e u v u' w is h k a =
-      subst (λ (z : Turn J). Spends left bound (unit * (length acts + length said)) c u e z) (sym a.2)
-      (subst (λ (x : Connection R). Spends left bound (unit * (length acts + length said)) c u x u') (sym a.1) (takes-on acts said c d c' u v u' h k))
-  takes-costs acts said false q c d c' e u v u' w is h k a =
-      subst (λ (x : Connection R). Spends left bound (unit * (length acts + length said)) c u x w) (sym a.2) (takes-asking acts said a.0 c d c' u v u' w (sym is ∙ a.1) h k a.3)
+  pub takes-on : (parts rest more : List (RunAct J)) (c d e : Connection R) (u v w : Turn J) → length rest ≡ length more + 1 → Taking parts c u rest d v → Spends left bound unit d v e w
+      → Taking parts c u more e w
+  takes-on parts rest more c d e u v w l h k = let f = unit-one (length more) (length rest) (omega arith) in omega arith
+
+  pub takes-all : (parts : List (RunAct J)) (n : ℕ) (c d : Connection R) (u v : Turn J) → Taking parts c u [] d v → Spends left bound (unit * (length parts + n)) c u d v
+  takes-all parts n c d u v h = let e = unit-and (length parts) n in omega arith
 
   pub tells-costs : (n : ℕ) (old new : R) (c d c' : Connection R) (u u' : Turn J) → c.run ≡ Some old → d.run ≡ Some new → d.client ≡ c.client → d.sockets ≡ c.sockets
       → left new + n < left old → Spends left bound (unit * n) d u c' u' → Pays left bound unit c u c' u'

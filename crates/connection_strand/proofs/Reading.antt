@@ -137,6 +137,11 @@ module _ {R J : Type 0} (left : R → ℕ) (bound : ℕ) where
       let f = unit-fewer x w (n * (bound + 2)) (length k.came.held * (bound + 2)) (mul-le-mul_right (bound + 2) (asked-fewer k.came k.limit)) in
       omega arith
 
+  pub limit-costs : (max : ℕ) (c d : Connection R) (u : Turn J) → kept d.client ≡ record (kept c.client) { limit = max; came = after_asked (kept c.client).came max } → d.run ≡ c.run
+      → d.sockets ≡ c.sockets → Spends left bound 0 c u d u
+  limit-costs max c d u client run socks =
+      asked-costs (record c { client = record c.client { limit = max } }) d u client run socks
+
   pub next-pays : (answer : LineOut) (on : Bool) (c d c' : Connection R) (u u' : Turn J) → IsFed (done (kept c.client).came) [] answer (kept d.client).came
       → kept d.client ≡ record (kept c.client) { came = (kept d.client).came } → d.run ≡ c.run → d.sockets ≡ c.sockets
       → Heard left bound answer on d u c' u' → Settles left bound on c u c' u'

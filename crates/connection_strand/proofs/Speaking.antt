@@ -1,27 +1,29 @@
 -- What a run says, and what the connection does then.
-use Rattle.std.proofs.Common.{◌≡◌, ℕ, ◌≤◌, ◌<◌, ◌-◌, length, take, drop, get_or, arith, Bool, true, false, not, ◌&&◌, List, [], ◌∷◌, Option, if◌then◌else◌, refl, sym, ap, ◌∙◌, subst}
-use Rattle.std.proofs.lemmas.List.{take_all}
+use Rattle.std.proofs.Common.{◌≡◌, ℕ, Bool, true, false, not, ◌&&◌, List, [], ◌∷◌, Option, if◌then◌else◌, refl, sym, ap, ◌∙◌, subst}
 use Rattle.client_line.specs.Lines.{body_answer}
-use Rattle.strand_plans.specs.Questions.{Question}
 use Rattle.strand_plans.specs.Ledgers.{Ledger}
 use Rattle.strand_plans.specs.Moves.{Move, Performed, Look, perform}
 use Rattle.run_contract.specs.declared.turns.Said.{Said}
 use Rattle.run_contract.specs.declared.turns.Said.TheVariants as said
-use Rattle.run_contract.specs.Runs.{Waits, says_over}
+use Rattle.run_contract.specs.declared.turns.RunAct.{RunAct}
+use Rattle.run_contract.specs.declared.turns.RunAct.TheVariants as made
+use Rattle.run_contract.specs.Deeds.{Deed, Say, Asks, says_over}
+use Rattle.run_contract.specs.Runs.{Waits, waits_did}
 use Rattle.run_contract.specs.Alike.{AreAlike}
 use Rattle.run_contract.specs.Conditions.{IsRun}
 use Rattle.connection_plan.specs.Clients.{Stage, Reply, Client, Unsent}
 use Rattle.connection_plan.specs.Clients as stage
 use Rattle.connection_plan.specs.Services.{Service, Both}
-use Rattle.connection_plan.specs.Timers as timer
-use Rattle.connection_plan.specs.Turns.{is_there, is_more, change, send, begin_timer, continue_reply, let_send, awaits_body, await_body, says}
-use Rattle.connection_plan.proofs.Alike.{alike-refl}
+use Rattle.connection_plan.specs.Turns.{is_there, is_more, change, send, continue_reply, let_send, wait_more, await_body, says}
+use Rattle.connection_plan.specs.Turns as plans
+use Rattle.connection_plan.proofs.Lifted.{same-run-refl}
 use Rattle.connection_strand.specs.declared.client.Reply as code
 use Rattle.connection_strand.specs.declared.client.Reply.TheVariants as own
+use Rattle.connection_strand.specs.Views.{View, service}
 use Rattle.connection_strand.specs.declared.state.Connection.{Connection}
 use Rattle.connection_strand.specs.declared.state.Turn.{Turn}
-use Rattle.connection_strand.specs.Kept.{Kept, kept, kept_of, reply_of}
-use Rattle.connection_strand.specs.Standing.{Moment, asks_at, speaking, SaidTo, SaysOn, IsOn, Within, Toward, before, places}
+use Rattle.connection_strand.specs.Kept.{Kept, kept, kept_of, reply_of, waits_of}
+use Rattle.connection_strand.specs.Standing.{Moment, plain, taking, IsOn, HasRun, Toward, before, at_end, places}
 use Rattle.connection_strand.proofs.Moving.{IsSameRun, stays-within}
 
 -- some of the reply was sent, in code
@@ -31,23 +33,14 @@ begun-is r e f = let x : stage.Begun ≡ Unsent = sym (ap reply_of e) ∙ f in c
 pub whole-is : (r : code.Reply) (closes : Bool) → r ≡ own.Whole closes → reply_of r ≡ Unsent → ⊥
 whole-is r closes e f = let x : stage.Whole closes ≡ Unsent = sym (ap reply_of e) ∙ f in cc
 
--- a word that isn't the last
-pub goes-on-after : (word : Said) → (word ≡ said.Over → ⊥) → not (says_over (word ∷ [])) ≡ true
-goes-on-after (said.Send bytes) f = refl
-goes-on-after (said.WantsBody max) f = refl
-goes-on-after said.WantsNoBody f = refl
-goes-on-after said.WantsAllTaken f = refl
-goes-on-after (said.Ended closes) f = refl
-goes-on-after said.Over f = absurd (f refl)
-
 -- more of the body is to come, and may come
 abbrev pub may_come : Kept → Bool
 may_come k = k.opened && not k.ended && is_more (body_answer k.came k.limit)
 
-module _ {R J I : Type 0} (site : Service J I) (holds : Ledger J → I → Type 0) (stands : R → Ledger J → I → Type 0)
-    (lawful : IsRun site.runs holds) (apart : (x : R) (b c : Ledger J) (r : I) → AreAlike b c → stands x b r → stands x c r) where
+module _ {R J I : Type 0} (v : View R J I)
+    (lawful : IsRun v.meaning.plan v.meaning.holds) (apart : (x : R) (b c : Ledger J) (r : I) → AreAlike b c → v.meaning.stands x b r → v.meaning.stands x c r) where
   abbrev pub To : Moment J → Performed J (Both I) → Connection R → Turn J → Move J (Both I) → Type 0
-  To e did c u m = Toward site.runs holds stands e did c u m
+  To e did c u m = Toward v e did c u m
 
   -- the client changes, but for its stage
   pub changes : (f : Client → Client) (k : Kept → Kept) (e : Moment J) (did : Performed J (Both I)) (c c' : Connection R) (u : Turn J) (m : Move J (Both I))
@@ -61,7 +54,7 @@ module _ {R J I : Type 0} (site : Service J I) (holds : Ledger J → I → Type 
       record {
         ledger = b;
         inner = s';
-        within = stays-within site holds stands lawful apart e c c' u u b b s s' h.within (alike-refl b) refl (stays s.client) same.run same.waits (record {
+        within = stays-within v lawful apart e c c' u u b b s s' h.within (same-run-refl b) refl (stays s.client) same.run same.waits (record {
           client = client ∙ ap k w.client ∙ so b s.client;
           sockets = w.sockets ∙ ap (places (is_there b)) (sym same.sockets);
           count = same.count ∙ w.count;
@@ -79,12 +72,12 @@ module _ {R J I : Type 0} (site : Service J I) (holds : Ledger J → I → Type 
   -- while nothing of the reply was sent, the first wait lets the client send the body
   pub lets : (e : Moment J) (did : Performed J (Both I)) (c c' : Connection R) (u : Turn J) (m : Move J (Both I)) (x : Bool)
       → (kept c.client).reply ≡ Unsent → c.client.waited ≡ false → c.client.expects ≡ x → IsSameRun c c' → kept c'.client ≡ record (kept c.client) { waited = true }
-      → To e did c u (Look (λ b s. let_send site 0 s.client s.client.reply m)) → To e did c' u (if x then send site 0 continue_reply m else m)
+      → To e did c u (Look (λ b s. let_send (service v) 0 s.client s.client.reply m)) → To e did c' u (if x then send (service v) 0 continue_reply m else m)
   lets e did c c' u m x unsent unwaited expects same client h =
       let b = h.ledger in
       let s = h.inner in
       let w = h.within.serves in
-      let rest : Bool → Move J (Both I) = λ y. if y then send site 0 continue_reply m else m in
+      let rest : Bool → Move J (Both I) = λ y. if y then send (service v) 0 continue_reply m else m in
       let replies : s.client.reply ≡ Unsent = sym (ap (λ (k : Kept). k.reply) w.client) ∙ unsent in
       let waits : s.client.waited ≡ false = sym (ap (λ (k : Kept). k.waited) w.client) ∙ unwaited in
       let asks : s.client.expects ≡ x = sym (ap (λ (k : Kept). k.expects) w.client) ∙ expects in
@@ -93,25 +86,25 @@ module _ {R J I : Type 0} (site : Service J I) (holds : Ledger J → I → Type 
         inner = s;
         within = h.within;
         leads = h.leads
-            ∙ ap (λ (r : Reply). before u.acts.items (perform (let_send site 0 s.client r m) b s)) replies
+            ∙ ap (λ (r : Reply). before u.acts.items (perform (let_send (service v) 0 s.client r m) b s)) replies
             ∙ ap (λ (y : Bool). before u.acts.items (perform (if y then m else change (λ k. record k { waited = true }) (rest s.client.expects)) b s)) waits
             ∙ ap (λ (y : Bool). before u.acts.items (perform (change (λ k. record k { waited = true }) (rest y)) b s)) asks;
       })
 
   pub lets-reply : (bytes : List ℕ) (e : Moment J) (did : Performed J (Both I)) (c c' : Connection R) (u : Turn J) (m : Move J (Both I)) → bytes ≡ continue_reply
       → (kept c.client).reply ≡ Unsent → c.client.waited ≡ false → c.client.expects ≡ true → IsSameRun c c' → kept c'.client ≡ record (kept c.client) { waited = true }
-      → To e did c u (Look (λ b s. let_send site 0 s.client s.client.reply m)) → To e did c' u (send site 0 bytes m)
+      → To e did c u (Look (λ b s. let_send (service v) 0 s.client s.client.reply m)) → To e did c' u (send (service v) 0 bytes m)
   lets-reply bytes e did c c' u m is unsent unwaited expects same client h =
-      subst (λ (xs : List ℕ). To e did c' u (send site 0 xs m)) (sym is) (lets e did c c' u m true unsent unwaited expects same client h)
+      subst (λ (xs : List ℕ). To e did c' u (send (service v) 0 xs m)) (sym is) (lets e did c c' u m true unsent unwaited expects same client h)
 
   -- some of the reply was sent
-  is-begun : (r : Reply) → (r ≡ Unsent → ⊥) → (c : Client) (m : Move J (Both I)) → let_send site 0 c r m ≡ m
+  is-begun : (r : Reply) → (r ≡ Unsent → ⊥) → (c : Client) (m : Move J (Both I)) → let_send (service v) 0 c r m ≡ m
   is-begun Unsent h c m = absurd (h refl)
   is-begun stage.Begun h c m = refl
   is-begun (stage.Whole closes) h c m = refl
 
   pub lets-begun : (e : Moment J) (did : Performed J (Both I)) (c : Connection R) (u : Turn J) (m : Move J (Both I)) → ((kept c.client).reply ≡ Unsent → ⊥)
-      → To e did c u (Look (λ b s. let_send site 0 s.client s.client.reply m)) → To e did c u m
+      → To e did c u (Look (λ b s. let_send (service v) 0 s.client s.client.reply m)) → To e did c u m
   lets-begun e did c u m begun h =
       let b = h.ledger in
       let s = h.inner in
@@ -119,13 +112,13 @@ module _ {R J I : Type 0} (site : Service J I) (holds : Ledger J → I → Type 
       record { ledger = b; inner = s; within = h.within; leads = h.leads ∙ ap (λ (n : Move J (Both I)). before u.acts.items (perform n b s)) (is-begun s.client.reply not-unsent s.client m) }
 
   -- or it was waited for before
-  waited-sends : (r : Reply) (c : Client) (m : Move J (Both I)) → c.waited ≡ true → let_send site 0 c r m ≡ m
-  waited-sends Unsent c m e = ap (λ (x : Bool). if x then m else change (λ k. record k { waited = true }) (if c.expects then send site 0 continue_reply m else m)) e
+  waited-sends : (r : Reply) (c : Client) (m : Move J (Both I)) → c.waited ≡ true → let_send (service v) 0 c r m ≡ m
+  waited-sends Unsent c m e = ap (λ (x : Bool). if x then m else change (λ k. record k { waited = true }) (if c.expects then send (service v) 0 continue_reply m else m)) e
   waited-sends stage.Begun c m e = refl
   waited-sends (stage.Whole closes) c m e = refl
 
   pub lets-waited : (e : Moment J) (did : Performed J (Both I)) (c : Connection R) (u : Turn J) (m : Move J (Both I)) → c.client.waited ≡ true
-      → To e did c u (Look (λ b s. let_send site 0 s.client s.client.reply m)) → To e did c u m
+      → To e did c u (Look (λ b s. let_send (service v) 0 s.client s.client.reply m)) → To e did c u m
   lets-waited e did c u m waited h =
       let b = h.ledger in
       let s = h.inner in
@@ -134,61 +127,110 @@ module _ {R J I : Type 0} (site : Service J I) (holds : Ledger J → I → Type 
 
   -- ---- a body that is waited for
 
-  four : (w o n i : Bool) → (w && o && n && i) ≡ (w && (o && n && i))
-  four true o n i = refl
-  four false o n i = refl
-
   -- as the code tells it
   abbrev pub awaits : Connection R → Bool
   awaits c = c.waits.body && may_come (kept c.client)
 
-  awaits-is : (q : Option (Question J)) (over : Bool) (c : Connection R) (u : Turn J) (b : Ledger J) (s : Both I)
-      → Within site.runs holds stands (speaking q over) c u b s → awaits_body site 0 b s ≡ awaits c
-  awaits-is q over c u b s h =
-      let k = kept_of b s.client in
-      four (site.runs.waits s.run).body (is_there b) (not s.client.ended) (is_more (body_answer s.client.came s.client.limit))
-      ∙ ap (λ (w : Waits). w.body && (k.opened && not k.ended && is_more (body_answer k.came k.limit))) (sym h.run.3)
-      ∙ ap (λ (k : Kept). c.waits.body && (k.opened && not k.ended && is_more (body_answer k.came k.limit))) (sym h.serves.client)
+  abbrev Awaits : ℕ → Performed J (Both I) → Connection R → Turn J → Move J (Both I) → Type 0
+  Awaits now did c u m = To (plain stage.Busy) did c u (await_body (service v) now m)
 
-  pub awaits-body : (now : ℕ) (q : Option (Question J)) (over : Bool) (did : Performed J (Both I)) (c : Connection R) (u : Turn J) (m : Move J (Both I)) → awaits c ≡ true
-      → To (speaking q over) did c u (await_body site now m)
-      → To (speaking q over) did c u (Look (λ b s. let_send site 0 s.client s.client.reply (begin_timer site now timer.Body m)))
-  awaits-body now q over did c u m is h =
+  awaits-is : (now : ℕ) (did : Performed J (Both I)) (c : Connection R) (u : Turn J) (m : Move J (Both I)) (h : Awaits now did c u m) (x : Bool) → awaits c ≡ x
+      → did ≡ before u.acts.items (perform (if x then wait_more (service v) now h.inner.client m else m) h.ledger h.inner)
+  awaits-is now did c u m h x is =
       let b = h.ledger in
       let s = h.inner in
+      h.leads
+      ∙ ap (λ (w : Waits). before u.acts.items (perform (if w.body && plans.may_come (service v) now b s.client then wait_more (service v) now s.client m else m) b s)) (sym h.within.run.3)
+      ∙ ap (λ (k : Kept). before u.acts.items (perform (if c.waits.body && may_come k then wait_more (service v) now s.client m else m) b s)) (sym h.within.serves.client)
+      ∙ ap (λ (y : Bool). before u.acts.items (perform (if y then wait_more (service v) now s.client m else m) b s)) is
+
+  pub awaits-body : (now : ℕ) (did : Performed J (Both I)) (c : Connection R) (u : Turn J) (m : Move J (Both I)) → awaits c ≡ true
+      → Awaits now did c u m → To (plain stage.Busy) did c u (Look (λ b s. wait_more (service v) now s.client m))
+  awaits-body now did c u m is h = record { ledger = h.ledger; inner = h.inner; within = h.within; leads = awaits-is now did c u m h true is }
+
+  pub awaits-none : (now : ℕ) (did : Performed J (Both I)) (c : Connection R) (u : Turn J) (m : Move J (Both I)) → awaits c ≡ false
+      → Awaits now did c u m → To (plain stage.Busy) did c u m
+  awaits-none now did c u m is h = record { ledger = h.ledger; inner = h.inner; within = h.within; leads = awaits-is now did c u m h false is }
+
+  -- ---- a word of the run
+
+  -- it isn't the last one
+  abbrev pub IsOther : Said → Type 0
+  IsOther said.Over = ⊥
+  IsOther w = Unit {0}
+
+  -- what the run waits for once it said the word
+  abbrev pub waits_said : Said → Waits → Waits
+  waits_said said.WantsNoBody w = record w { body = false }
+  waits_said w x = x
+
+  did-said : (w : Said) (ds : List Deed) (x : Waits) → IsOther w → waits_did (Say w ∷ ds) x ≡ waits_did ds (waits_said w x)
+  did-said (said.Send bytes) ds x o = refl
+  did-said said.WantsNoBody ds x o = refl
+  did-said (said.Times times) ds x o = refl
+  did-said (said.Ended closes) ds x o = refl
+  did-said said.Over ds x o = absurd o
+
+  over-said : (w : Said) (ds : List Deed) → IsOther w → says_over (Say w ∷ ds) ≡ says_over ds
+  over-said (said.Send bytes) ds o = refl
+  over-said said.WantsNoBody ds o = refl
+  over-said (said.Times times) ds o = refl
+  over-said (said.Ended closes) ds o = refl
+  over-said said.Over ds o = absurd o
+
+  others-left : (x : RunAct J) (xs ys : List (RunAct J)) → x ∷ xs ≡ x ∷ ys → xs ≡ ys
+  others-left x xs ys e = cc
+
+  waits-now : (st : Stage) (o : Option R) (w x : Waits) (b : Ledger J) (r : I) → w ≡ x → HasRun v st o w b r → HasRun v st o x b r
+  waits-now st o w x b r e h = subst (λ (y : Waits). HasRun v st o y b r) e h
+
+  -- it is said: what it does is still to come
+  pub said-so : (w : Said) (st : Stage) (ds : List Deed) (a : Asks J) (rest : List (RunAct J)) (did : Performed J (Both I)) (c c' : Connection R) (u : Turn J) (m : Move J (Both I)) → IsOther w
+      → c' ≡ record c { waits = c'.waits } → waits_of c'.waits ≡ waits_said w (waits_of c.waits)
+      → To (taking st (Say w ∷ ds) a (made.Say w ∷ rest)) did c u m → To (taking st ds a rest) did c' u m
+  said-so w st ds a rest did c c' u m other same waits h =
+      let b = h.ledger in
+      let s = h.inner in
+      let x = h.within.serves in
       record {
         ledger = b;
         inner = s;
-        within = h.within;
-        leads = h.leads ∙ ap (λ (x : Bool). before u.acts.items (perform (if x then let_send site now s.client s.client.reply (begin_timer site now timer.Body m) else m) b s)) (awaits-is q over c u b s h.within ∙ is);
+        within = record {
+          serves = record {
+            client = ap (λ (k : Connection R). kept k.client) same ∙ x.client;
+            sockets = x.sockets ∙ ap (λ (k : Connection R). places (is_there b) k.sockets.items) (sym same);
+            count = ap (λ (k : Connection R). k.count) same ∙ x.count;
+            keeping = ap (λ (k : Connection R). k.keeping) same ∙ x.keeping;
+            offered = x.offered;
+            taking = λ there. ap (λ (k : Connection R). k.is_taking) same ∙ x.taking there;
+            counted = x.counted;
+            once = x.once;
+            none_asked = x.none_asked;
+            on = x.on;
+          };
+          at = h.within.at;
+          run = subst (λ (o : Option R). HasRun v st o (waits_did ds (waits_of c'.waits)) (at_end (taking st ds a rest) b) s.run) (sym (ap (λ (k : Connection R). k.run) same))
+              (waits-now st c.run (waits_did (Say w ∷ ds) (waits_of c.waits)) (waits_did ds (waits_of c'.waits)) (at_end (taking st ds a rest) b) s.run
+              (did-said w ds (waits_of c.waits) other ∙ ap (waits_did ds) (sym waits)) h.within.run);
+          known = h.within.known;
+          blank = λ over. h.within.blank (over-said w ds other ∙ over);
+          made = others-left (made.Say w) rest _ h.within.made;
+        };
+        leads = h.leads;
       }
 
-  pub awaits-none : (now : ℕ) (q : Option (Question J)) (over : Bool) (did : Performed J (Both I)) (c : Connection R) (u : Turn J) (m : Move J (Both I)) → awaits c ≡ false
-      → To (speaking q over) did c u (await_body site now m) → To (speaking q over) did c u m
-  awaits-none now q over did c u m is h =
-      let b = h.ledger in
-      let s = h.inner in
-      record {
-        ledger = b;
-        inner = s;
-        within = h.within;
-        leads = h.leads ∙ ap (λ (x : Bool). before u.acts.items (perform (if x then let_send site now s.client s.client.reply (begin_timer site now timer.Body m) else m) b s)) (awaits-is q over c u b s h.within ∙ is);
-      }
-
-  -- ---- the end of the run
-
-  pub flushes : (q : Option (Question J)) (over : Bool) (did : Performed J (Both I)) (c c' : Connection R) (u : Turn J) (m : Move J (Both I)) → over ≡ true
+  -- the last one: nothing of the run is left
+  pub flushes : (st : Stage) (ds : List Deed) (a : Asks J) (rest : List (RunAct J)) (did : Performed J (Both I)) (c c' : Connection R) (u : Turn J) (m : Move J (Both I))
       → c'.sockets.items ≡ c.sockets.items → c'.count ≡ c.count → c'.keeping ≡ c.keeping → c'.is_taking ≡ c.is_taking
       → kept c'.client ≡ record (kept c.client) { stage = stage.Flush }
-      → To (speaking q over) did c u (change (λ k. record k { stage = stage.Flush }) m) → To (asks_at stage.Flush q) did c' u m
-  flushes q over did c c' u m is socks count keeping taking client h =
+      → To (taking st (Say said.Over ∷ ds) a (made.Say said.Over ∷ rest)) did c u (change (λ k. record k { stage = stage.Flush }) m) → To (taking stage.Flush ds a rest) did c' u m
+  flushes st ds a rest did c c' u m socks count keeping taking client h =
       let b = h.ledger in
       let s = h.inner in
       let w = h.within.serves in
-      let s' : Both I = record s { client = record s.client { stage = stage.Flush } } in
       record {
         ledger = b;
-        inner = s';
+        inner = record s { client = record s.client { stage = stage.Flush } };
         within = record {
           serves = record {
             client = client ∙ ap (λ (k : Kept). record k { stage = stage.Flush }) w.client;
@@ -204,73 +246,9 @@ module _ {R J I : Type 0} (site : Service J I) (holds : Ledger J → I → Type 
           };
           at = refl;
           run = tt;
-          known = h.within.blank is;
-          blank = λ over. absurd (let e : false ≡ true = over in cc);
+          known = h.within.blank refl;
+          blank = λ over. h.within.blank refl;
+          made = others-left (made.Say said.Over) rest _ h.within.made;
         };
         leads = h.leads;
       }
-
-  -- ---- one word
-
-  pub said-as : (now : ℕ) (word other : Said) (more : List Said) (e : Moment J) (did : Performed J (Both I)) (c : Connection R) (u : Turn J) (m : Move J (Both I)) → word ≡ other
-      → To e did c u (says site now (word ∷ more) m) → To e did c u (says site now (other ∷ more) m)
-  said-as now word other more e did c u m is h = subst (λ w. To e did c u (says site now (w ∷ more) m)) is h
-
-  -- the list is its first word and the others
-  abbrev pub SaidSo : ℕ → List Said → Connection R → Turn J → List Said → Connection R → Turn J → Type 0
-  SaidSo now words c u rest c' u' = (q : Option (Question J)) (over : Bool) (did : Performed J (Both I)) (m : Move J (Both I)) → (says_over words ≡ true → over ≡ true)
-      → To (speaking q over) did c u (says site now words m) → (says_over rest ≡ true → over ≡ true) × To (speaking q over) did c' u' (says site now rest m)
-
-  first-is : (words : List Said) (word : Said) → 1 ≤ length words → word ≡ get_or words 0 word → words ≡ word ∷ take (length words - 1) (drop 1 words)
-  first-is [] word some is = absurd (omega (arith, some))
-  first-is (x ∷ xs) word some is = ap (λ w. w ∷ xs) (sym is) ∙ ap (λ ws. word ∷ ws) (sym (take_all (length (x ∷ xs) - 1) xs (omega arith)))
-
-  parted : (now : ℕ) (words : List Said) (word : Said) (on : Bool) (c c' : Connection R) (u u' : Turn J) → SaysOn site.runs holds stands on (says site now) word c u c' u'
-      → 1 ≤ length words → word ≡ get_or words 0 word
-      → (q : Option (Question J)) (over : Bool) (did : Performed J (Both I)) (m : Move J (Both I)) → (says_over words ≡ true → over ≡ true) → To (speaking q over) did c u (says site now words m)
-      → SaidTo site.runs holds stands on (says site now) q over (take (length words - 1) (drop 1 words)) did c' u' m
-  parted now words word on c c' u u' told some is q over did m ends h =
-      let more = take (length words - 1) (drop 1 words) in
-      let e : words ≡ word ∷ more = first-is words word some is in
-      told q over more did m (subst (λ ws. says_over ws ≡ true → over ≡ true) e ends) (subst (λ ws. To (speaking q over) did c u (says site now ws m)) e h)
-
-  -- after a word the others are said
-  over-later : (word : Said) (more : List Said) (over : Bool) → (says_over (word ∷ more) ≡ true → over ≡ true) → (says_over more ≡ true → over ≡ true)
-  over-later (said.Send bytes) more over h = h
-  over-later (said.WantsBody max) more over h = h
-  over-later said.WantsNoBody more over h = h
-  over-later said.WantsAllTaken more over h = h
-  over-later (said.Ended closes) more over h = h
-  over-later said.Over more over h = λ e. h refl
-
-  pub said-on : (now : ℕ) (words : List Said) (word : Said) (on : Bool) (c c' : Connection R) (u u' : Turn J) → SaysOn site.runs holds stands on (says site now) word c u c' u'
-      → 1 ≤ length words → word ≡ get_or words 0 word → on ≡ true → SaidSo now words c u (take (length words - 1) (drop 1 words)) c' u'
-  said-on now words word on c c' u u' told some is goes q over did m ends h =
-      let more = take (length words - 1) (drop 1 words) in (
-        over-later word more over (subst (λ ws. says_over ws ≡ true → over ≡ true) (first-is words word some is) ends),
-        subst (λ (x : Bool). SaidTo site.runs holds stands x (says site now) q over more did c' u' m) goes (parted now words word on c c' u u' told some is q over did m ends h),
-      )
-
-  -- after the last one nothing is said
-  pub said-last : (now : ℕ) (words : List Said) (word : Said) (on : Bool) (c c' : Connection R) (u u' : Turn J) → SaysOn site.runs holds stands on (says site now) word c u c' u'
-      → 1 ≤ length words → word ≡ get_or words 0 word → on ≡ false
-      → (q : Option (Question J)) (over : Bool) (did : Performed J (Both I)) (m : Move J (Both I)) → (says_over words ≡ true → over ≡ true) → To (speaking q over) did c u (says site now words m)
-      → (st : Stage) × To (asks_at st q) did c' u' m
-  said-last now words word on c c' u u' told some is goes q over did m ends h = (
-    stage.Flush,
-    subst (λ (x : Bool). SaidTo site.runs holds stands x (says site now) q over (take (length words - 1) (drop 1 words)) did c' u' m) goes
-        (parted now words word on c c' u u' told some is q over did m ends h),
-  )
-
-  pub said-all : (now : ℕ) (words : List Said) (c : Connection R) (u : Turn J) → length words < 1
-      → (q : Option (Question J)) (over : Bool) (did : Performed J (Both I)) (m : Move J (Both I)) → To (speaking q over) did c u (says site now words m) → (st : Stage) × To (asks_at st q) did c u m
-  said-all now [] c u none q over did m h = (
-    stage.Busy,
-    record {
-      ledger = h.ledger;
-      inner = h.inner;
-      within = record { serves = h.within.serves; at = h.within.at; run = h.within.run; known = h.within.known; blank = λ e. absurd (let f : false ≡ true = e in cc) };
-      leads = h.leads;
-    },
-  )
-  said-all now (x ∷ xs) c u none q over did m h = absurd (omega (arith, none))

@@ -1,21 +1,27 @@
 -- What the run is told, and answered.
-use Rattle.std.proofs.Common.{◌≡◌, ℕ, Option, Some, None, sym, ap, ◌∙◌, subst}
+use Rattle.std.proofs.Common.{◌≡◌, ℕ, false, List, [], ◌∷◌, Option, Some, None, refl, sym, ap, ◌∙◌, subst}
 use Rattle.strand_contract.specs.declared.turns.Answer.{Answer}
 use Rattle.strand_contract.specs.Actions.{Did}
 use Rattle.strand_plans.specs.Ledgers.{Ledger, entered}
-use Rattle.strand_plans.specs.Moves.{Move, Performed}
+use Rattle.strand_plans.specs.Moves.{Move, Performed, perform}
 use Rattle.run_contract.specs.declared.turns.RunSeen.{RunSeen}
 use Rattle.run_contract.specs.declared.turns.RunTurn.{RunTurn}
-use Rattle.run_contract.specs.Runs.{Waits, waits_told, performed}
+use Rattle.run_contract.specs.declared.turns.Said.TheVariants as said
+use Rattle.run_contract.specs.declared.turns.Asking.{Asking}
+use Rattle.run_contract.specs.Deeds as runs
+use Rattle.run_contract.specs.Deeds.{Deed, Ready, Unready, Arm, Cancel, HangUp, Send, Log, Say, within, taken}
+use Rattle.run_contract.specs.Runs.{Waits, waits_told, waits_did, waits_after}
 use Rattle.run_contract.specs.Calls as calls
-use Rattle.run_contract.specs.Conditions.{IsRun, IsLeft, entered_as}
+use Rattle.run_contract.specs.Conditions.{IsRun, IsLeft, Leaves, entered_as}
+use Rattle.connection_plan.specs.Clients as stage
 use Rattle.connection_plan.specs.Services.{Service, Both}
-use Rattle.connection_plan.specs.Turns.{is_there}
+use Rattle.connection_plan.specs.Turns.{is_there, run_turn}
+use Rattle.connection_strand.specs.Views.{View, service}
 use Rattle.connection_strand.specs.declared.state.Connection.{Connection}
 use Rattle.connection_strand.specs.declared.state.Turn.{Turn}
 use Rattle.connection_strand.specs.Kept.{kept, waits_of}
-use Rattle.connection_strand.specs.Standing.{Serves, places}
-use Rattle.connection_strand.specs.Turns.{Told, Answered, Took}
+use Rattle.connection_strand.specs.Standing.{Serves, before, places}
+use Rattle.connection_strand.specs.Turns.{Told, Answered, Took, with_asks}
 
 -- all but the run, and what it waits for, is as it was
 pub record IsSameClient {R : Type 0} (c c' : Connection R) : Type 0 where
@@ -45,51 +51,76 @@ the-run o x y e f = let g : Some x ≡ Some y = sym e ∙ f in cc
 pub no-run : {R C : Type 0} (o : Option R) (x : R) → o ≡ None → o ≡ Some x → C
 no-run o x e f = absurd (let g : None ≡ Some x = sym e ∙ f in cc)
 
-module _ {R J I : Type 0} (site : Service J I) (holds : Ledger J → I → Type 0) (stands : R → Ledger J → I → Type 0) (lawful : IsRun site.runs holds) (now : ℕ) where
+-- what it asks its connection at the end of a turn changes nothing of what its words do
+did-asking : (ds : List Deed) (q : Option Asking) (w : Waits) → waits_did ds (record w { asks = q }) ≡ record (waits_did ds w) { asks = q }
+did-asking [] q w = refl
+did-asking (Say said.WantsNoBody ∷ ds) q w = did-asking ds q (record w { body = false })
+did-asking (Say said.Over ∷ ds) q w = did-asking ds q (record w { body = false; taken = false })
+did-asking (Say (said.Send bytes) ∷ ds) q w = did-asking ds q w
+did-asking (Say (said.Times times) ∷ ds) q w = did-asking ds q w
+did-asking (Say (said.Ended closes) ∷ ds) q w = did-asking ds q w
+did-asking (Ready k ∷ ds) q w = did-asking ds q w
+did-asking (Unready k ∷ ds) q w = did-asking ds q w
+did-asking (Arm k at ∷ ds) q w = did-asking ds q w
+did-asking (Cancel k ∷ ds) q w = did-asking ds q w
+did-asking (HangUp k ∷ ds) q w = did-asking ds q w
+did-asking (Send k bytes ∷ ds) q w = did-asking ds q w
+did-asking (Log line ∷ ds) q w = did-asking ds q w
+
+module _ {R J I : Type 0} (v : View R J I) (now : ℕ) where
+  -- a turn that the run took is to be taken
+  pub took-turn : (t : runs.Turn J I) (next : RunTurn J) (did : Performed J (Both I)) (c : Connection R) (u : Turn J) (m : Move J (Both I)) (b : Ledger J) (s : Both I) (run : R)
+      → Serves c u b s → s.client.stage ≡ stage.Busy → c.run ≡ Some run → calls.Took v.meaning t b run next → Leaves v.meaning.plan v.meaning.holds (waits_of c.waits) t b
+      → did ≡ before u.acts.items (perform (run_turn (service v) now t m) b s) → Took v now next did c u m
+  took-turn t next did c u m b s run serves busy is took left leads = (
+    stage.Busy,
+    t.does,
+    t.asks,
+    record {
+      ledger = b;
+      inner = record s { run = t.run };
+      within = record {
+        serves = record {
+          client = serves.client;
+          sockets = serves.sockets;
+          count = serves.count;
+          keeping = serves.keeping;
+          offered = serves.offered;
+          taking = serves.taking;
+          counted = serves.counted;
+          once = serves.once;
+          none_asked = serves.none_asked;
+          on = serves.on;
+        };
+        at = busy;
+        run = (run, is, took.0, did-asking t.does next.asks (waits_of c.waits) ∙ ap (λ (q : Option Asking). record (waits_did t.does (waits_of c.waits)) { asks = q }) took.2 ∙ sym left.waits);
+        known = left.known;
+        blank = λ over. (left.over over).0;
+        made = took.1;
+      };
+      leads = leads;
+    },
+  )
+
+module _ {R J I : Type 0} (v : View R J I) (lawful : IsRun v.meaning.plan v.meaning.holds) (now : ℕ) where
   pub told-takes : (x : RunSeen) (next : RunTurn J) (did : Performed J (Both I)) (c c' : Connection R) (u : Turn J) (m : Move J (Both I)) (old new : R)
-      → c.run ≡ Some old → c'.run ≡ Some new → calls.TakesTurn site.runs holds stands now x old new next → IsSameClient c c'
-      → waits_of c'.waits ≡ waits_told x (waits_of c.waits) → Told site holds stands now x did c u m → Took site holds stands now next did c' u m
+      → c.run ≡ Some old → c'.run ≡ Some new → calls.TakesTurn v.meaning now x old new next → IsSameClient c c'
+      → waits_of c'.waits ≡ waits_told x (waits_of c.waits) → Told v now x did c u m → Took v now next did c' u m
   told-takes x next did c c' u m old new was is takes same waits h =
       let b = entered_as x h.ledger in
-      let t = site.runs.turn now x b h.inner.run in
-      let took = takes h.ledger h.inner.run (subst (λ (y : R). stands y h.ledger h.inner.run) (the-run c.run h.run old h.is was) h.standing) h.known h.comes in
-      record {
-        ledger = b;
-        inner = h.inner;
-        turn = t;
-        serves = serves-same c c' u b h.inner same h.serves;
-        busy = h.busy;
-        run = new;
-        is = is;
-        standing = took.0;
-        acts = took.1;
-        said = took.2;
-        left = subst (λ (w : Waits). IsLeft site.runs holds w t.said (performed t b h.inner.run)) (ap (waits_told x) (sym h.waits) ∙ sym waits)
-            (lawful.stays now x h.ledger h.inner.run h.known h.comes);
-        own = lawful.moves_by_own now x b h.inner.run;
-        leads = h.leads;
-      }
+      let t = v.meaning.plan.turn now x b h.inner.run in
+      took-turn v now t next did c' u m b h.inner new (serves-same c c' u b h.inner same h.serves) h.busy is
+      (takes h.ledger h.inner.run (subst (λ (y : R). v.meaning.stands y h.ledger h.inner.run) (the-run c.run h.run old h.is was) h.standing) h.known h.comes)
+      (subst (λ (w : Waits). Leaves v.meaning.plan v.meaning.holds w t b) (ap (waits_told x) (sym h.waits) ∙ sym waits) (lawful.stays now x h.ledger h.inner.run h.known h.comes))
+      h.leads
 
   pub answered-takes : (given : Answer) (next : RunTurn J) (did : Performed J (Both I)) (c c' : Connection R) (u : Turn J) (m : Move J (Both I)) (old new : R)
-      → c.run ≡ Some old → c'.run ≡ Some new → calls.TakesAnswer site.runs holds stands now given old new next → IsSameClient c c'
-      → c'.waits ≡ c.waits → Answered site holds stands now given did c u m → Took site holds stands now next did c' u m
+      → c.run ≡ Some old → c'.run ≡ Some new → calls.TakesAnswer v.meaning now given old new next → IsSameClient c c'
+      → c'.waits ≡ c.waits → Answered v now given did c u m → Took v now next did c' u m
   answered-takes given next did c c' u m old new was is takes same waits h =
       let b = entered (Did h.action) h.ledger in
-      let t = site.runs.answered now h.action b h.inner.run in
-      let took = takes h.ledger h.inner.run h.action (subst (λ (y : R). stands y h.ledger h.inner.run) (the-run c.run h.run old h.is was) h.standing) h.known h.answers in
-      record {
-        ledger = b;
-        inner = h.inner;
-        turn = t;
-        serves = serves-same c c' u b h.inner same h.serves;
-        busy = h.busy;
-        run = new;
-        is = is;
-        standing = took.0;
-        acts = took.1;
-        said = took.2;
-        left = subst (λ (w : Waits). IsLeft site.runs holds w t.said (performed t b h.inner.run)) (sym (ap waits_of waits ∙ h.waits))
-            (lawful.answers now h.action given h.ledger h.inner.run h.known h.answers);
-        own = lawful.answers_by_own now h.action b h.inner.run;
-        leads = h.leads;
-      }
+      let t = v.meaning.plan.answered now h.action b h.inner.run in
+      took-turn v now t next did c' u m b h.inner new (serves-same c c' u b h.inner same h.serves) h.busy is
+      (takes h.ledger h.inner.run h.action (subst (λ (y : R). v.meaning.stands y h.ledger h.inner.run) (the-run c.run h.run old h.is was) h.standing) h.known h.answers)
+      (subst (λ (w : Waits). Leaves v.meaning.plan v.meaning.holds w t b) (sym (ap waits_of waits ∙ h.waits)) (lawful.answers now h.action given h.ledger h.inner.run h.known h.answers))
+      h.leads

@@ -1,5 +1,5 @@
--- The acts of a run's turn: those that are done, and the question at their end.
-use Rattle.std.specs.Prelude.{ℕ, ◌+◌, ◌==◌, Bool, true, false, not, filter, map, List, [], ◌∷◌, ◌++◌, Option, Some, None, if◌then◌else◌}
+-- The acts of a run, and what they and the answers to them do to the sockets that are open.
+use Rattle.std.specs.Prelude.{ℕ, ◌+◌, ◌==◌, Bool, true, false, not, filter, map, List, [], ◌∷◌, ◌++◌, Option, Some}
 use Rattle.strand_contract.specs.declared.turns.Place.TheVariants as place
 use Rattle.strand_contract.specs.declared.turns.Act.{Act}
 use Rattle.strand_contract.specs.declared.turns.Act.TheVariants as act
@@ -15,39 +15,19 @@ is_question (act.Keep k key idle size) = true
 is_question (act.Timer at job) = true
 is_question a = false
 
--- the socket that the act gives to the pool
-abbrev pub kept_socket : {J : Type 0} → Act J → Option ℕ
-kept_socket (act.Keep k key idle size) = Some k
-kept_socket a = None
-
--- what comes before the question, and the question
-abbrev pub done_of : {J : Type 0} → List (Act J) → List (Act J)
-done_of [] = []
-done_of (a ∷ acts) = if is_question a then [] else a ∷ done_of acts
-
-abbrev pub question_in : {J : Type 0} → List (Act J) → Option (Act J)
-question_in [] = None
-question_in (a ∷ acts) = if is_question a then Some a else question_in acts
-
--- the first of them
-abbrev pub head : {A : Type 0} → List A → Option A
-head [] = None
-head (x ∷ xs) = Some x
-
--- whether an act comes next that isn't a question
-abbrev pub begins_with_deed : {J : Type 0} → List (Act J) → Bool
-begins_with_deed [] = false
-begins_with_deed (a ∷ acts) = not (is_question a)
+-- the socket that is to be given to the pool, once this act is asked
+abbrev pub kept_with : {J : Type 0} → Act J → Option ℕ → Option ℕ
+kept_with (act.Keep k key idle size) kept = Some k
+kept_with a kept = kept
 
 -- numbers without one of them
 abbrev pub without_all : ℕ → List ℕ → List ℕ
 without_all k ks = filter (λ j. not (j == k)) ks
 
--- the open sockets after these acts
-abbrev pub sockets_after : {J : Type 0} → List (Act J) → List ℕ → List ℕ
-sockets_after [] socks = socks
-sockets_after (act.HangUp (place.Sock k) ∷ acts) socks = sockets_after acts (without_all k socks)
-sockets_after (a ∷ acts) socks = sockets_after acts socks
+-- the open sockets after the act
+abbrev pub sockets_after : {J : Type 0} → Act J → List ℕ → List ℕ
+sockets_after (act.HangUp (place.Sock k)) socks = without_all k socks
+sockets_after a socks = socks
 
 -- the acts that hang them up
 abbrev pub hang_ups : {J : Type 0} → List ℕ → List (Act J)

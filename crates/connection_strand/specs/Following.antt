@@ -7,16 +7,16 @@ use Rattle.strand_contract.specs.declared.turns.Start.TheVariants as start
 use Rattle.strand_contract.specs.Actions.{LocalAction}
 use Rattle.strand_contract.specs.Alone.{begun_offer}
 use Rattle.strand_contract.specs.Laws.{is_still}
-use Rattle.strand_plans.specs.Ledgers.{Ledger, is_place}
+use Rattle.strand_plans.specs.Ledgers.{is_place}
 use Rattle.strand_plans.specs.Plans.{state_of}
 use Rattle.run_contract.specs.Runs.{waits_at_first}
 use Rattle.connection_plan.specs.Clients.{Times}
-use Rattle.connection_plan.specs.Services.{Service}
 use Rattle.connection_plan.specs.Turns.{is_there}
 use Rattle.connection_plan.specs.Connections.{connection_plan}
 use Rattle.connection_strand.specs.declared.state.Connection.{Connection}
 use Rattle.connection_strand.specs.Kept.{kept, fresh, waits_of}
 use Rattle.connection_strand.specs.Standing.{Stays}
+use Rattle.connection_strand.specs.Views.{View, service}
 
 -- the place whose offer was begun as the newest turn began, or went on
 abbrev pub turn_begun : {J : Type 0} → List (LocalAction J) → Option Place
@@ -38,7 +38,7 @@ pub record IsNew {R : Type 0} (default_times : Times) (opened : Bool) (c : Conne
   pub taking : c.is_taking ≡ false
 
 -- while the life goes on, it is as the plan has it after what happened to it; and it knows whether its client's offer goes on
-pub record Follows {R J I : Type 0} (site : Service J I) (stands : R → Ledger J → I → Type 0) (c : Connection R) (es : List (LocalAction J)) : Type 0 where
-  pub stays : (state_of (connection_plan site) es).ledger.ended ≡ false
-      → Stays site.runs stands c (state_of (connection_plan site) es).ledger (state_of (connection_plan site) es).inner
-  pub taking : is_there (state_of (connection_plan site) es).ledger ≡ true → c.is_taking ≡ is_place place.Client (turn_begun es)
+pub record Follows {R J I : Type 0} (v : View R J I) (c : Connection R) (es : List (LocalAction J)) : Type 0 where
+  pub stays : (state_of (connection_plan (service v)) es).ledger.ended ≡ false
+      → Stays v c (state_of (connection_plan (service v)) es).ledger (state_of (connection_plan (service v)) es).inner
+  pub taking : is_there (state_of (connection_plan (service v)) es).ledger ≡ true → c.is_taking ≡ is_place place.Client (turn_begun es)

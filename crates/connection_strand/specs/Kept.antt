@@ -6,7 +6,9 @@ use Rattle.send_queue.specs.Records.{Sending}
 use Rattle.strand_contract.specs.declared.turns.Place.TheVariants as place
 use Rattle.strand_contract.specs.Alone.{is_some_left}
 use Rattle.strand_plans.specs.Ledgers.{Ledger, has_number, numbers, left_at}
+use Rattle.run_contract.specs.declared.turns.LocationTimes.{LocationTimes}
 use Rattle.run_contract.specs.declared.turns.RunSeen.{RunSeen}
+use Rattle.run_contract.specs.declared.turns.RunSeen.TheVariants as seen
 use Rattle.run_contract.specs.Runs.{Waits}
 use Rattle.connection_plan.specs.Clients.{Stage, Reply, Times, Client}
 use Rattle.connection_plan.specs.Clients as stage
@@ -44,7 +46,7 @@ timer_of own_timer.Body = timer.Body
 timer_of own_timer.Send = timer.Send
 
 abbrev pub waits_of : code_waits.Waits → Waits
-waits_of w = record { body = w.body; taken = w.taken; client = w.client }
+waits_of w = record { body = w.body; taken = w.taken; client = w.client; asks = w.asks }
 
 -- what is kept: the client's line; what the plan has of it but for the exchanges; its place; and whether the deadlines 0 and 1 are armed
 pub record Kept : Type 0 where
@@ -134,6 +136,10 @@ abbrev pub is_armed : Timer → Kept → Bool
 is_armed timer.Send k = k.sends
 is_armed t k = k.waits
 
+-- another location answers the request
+abbrev pub with_times : LocationTimes → Kept → Kept
+with_times t k = record k { times = record k.times { keepalive = t.keepalive.0; body = t.body.0; send = t.send.0 } }
+
 -- nothing of what was sent is left to be taken
 abbrev pub all_taken : Kept → Bool
 all_taken k = not (k.opened && is_some_left k.sending.bytes)
@@ -159,3 +165,7 @@ client_of k = record {
 -- what a run is told of the body that it waits for
 abbrev pub seen_of_body : Kept → Option RunSeen
 seen_of_body k = body_told (k.opened && not k.ended) (client_of k) (body_answer k.came k.limit)
+
+-- and whether all is taken, which it asks
+abbrev pub seen_of_taken : Kept → RunSeen
+seen_of_taken k = if all_taken k then seen.AllTaken else seen.NotYet

@@ -1,3 +1,4 @@
+pub mod Views
 pub mod Kept
 pub mod Acts
 pub mod Standing

@@ -11,7 +11,8 @@ use Rattle.strand_plans.specs.Turns.{Comes}
 use Rattle.run_contract.specs.declared.turns.RunSeen.{RunSeen}
 use Rattle.run_contract.specs.declared.turns.SockSeen.{SockSeen}
 use Rattle.run_contract.specs.declared.turns.SockSeen.TheVariants as at
-use Rattle.run_contract.specs.Runs.{RunPlan}
+use Rattle.run_contract.specs.Calls.{is_own_turn}
+use Rattle.run_contract.specs.Runs.{is_of_client}
 use Rattle.run_contract.specs.Conditions.{MayCome, entered_as, next_piece}
 use Rattle.connection_plan.specs.Services.{Service, Both}
 use Rattle.client_line.specs.declared.requests.LineOut.{LineOut}
@@ -20,7 +21,7 @@ use Rattle.connection_plan.specs.Clients.{Stage}
 use Rattle.connection_plan.specs.Clients as stage
 use Rattle.connection_plan.specs.Turns.{is_there, await_body, heard_by, settle}
 use Rattle.connection_plan.specs.Connections.{connection_plan, connection_turn, to_run}
-use Rattle.connection_plan.specs.Conditions.{Agrees}
+use Rattle.connection_plan.specs.Conditions.{Agrees, AgreesWithin}
 use Rattle.connection_strand.specs.declared.sights.Taking.{Taking}
 use Rattle.connection_strand.specs.declared.sights.Taking.TheVariants as taking
 use Rattle.connection_strand.specs.declared.sights.Event.{Event}
@@ -29,8 +30,9 @@ use Rattle.connection_strand.specs.declared.sights.Sight.{Sight}
 use Rattle.connection_strand.specs.declared.sights.Sight.TheVariants as sight
 use Rattle.connection_strand.specs.declared.state.Connection.{Connection}
 use Rattle.connection_strand.specs.declared.state.Turn.{Turn}
-use Rattle.connection_strand.specs.Kept.{Kept, kept, kept_of, wants_offer}
+use Rattle.connection_strand.specs.Kept.{Kept, kept, kept_of, waits_of, wants_offer}
 use Rattle.connection_strand.specs.Standing.{IsOn, HasRun, Serves, Came, Went, before, places}
+use Rattle.connection_strand.specs.Views.{View, service}
 
 -- what comes at a socket, as it is shown
 abbrev pub sock_seen : ℕ → SockSeen → Seen
@@ -92,13 +94,13 @@ abbrev pub takes_as : Seen → Bool
 takes_as (seen.Took place.Client n) = true
 takes_as s = false
 
-module _ {R J I : Type 0} (plan : RunPlan J I) (holds : Ledger J → I → Type 0) (stands : R → Ledger J → I → Type 0) where
+module _ {R J I : Type 0} (v : View R J I) where
   -- while no question waits, the next piece of what is left of an open socket
   abbrev pub HasPieceAt : Connection R → ℕ → List ℕ → Type 0
-  HasPieceAt c k bytes = (b : Ledger J) (s : Both I) → (kept c.client).stage ≡ s.client.stage → HasRun plan stands s.client.stage c b s.run
-      → Agrees holds s.client.stage b s.run → b.asked ≡ None → bytes ≡ (if has (place.Sock k) b.opened then next_piece k b else [])
+  HasPieceAt c k bytes = (b : Ledger J) (s : Both I) → (kept c.client).stage ≡ s.client.stage → HasRun v s.client.stage c.run (waits_of c.waits) b s.run
+      → Agrees v.meaning.plan v.meaning.holds s.client.stage b s.run → b.asked ≡ None → bytes ≡ (if has (place.Sock k) b.opened then next_piece k b else [])
 
-module _ {R J I : Type 0} (site : Service J I) (holds : Ledger J → I → Type 0) (stands : R → Ledger J → I → Type 0) (now : ℕ) where
+module _ {R J I : Type 0} (v : View R J I) (now : ℕ) where
   -- a turn that begins with what it is shown; the ledger is that before this was entered
   pub record Shown (x : Seen) (did : Performed J (Both I)) (c : Connection R) (u : Turn J) : Type 0 where
     pub ledger : Ledger J
@@ -114,41 +116,42 @@ module _ {R J I : Type 0} (site : Service J I) (holds : Ledger J → I → Type 
     pub once : NumbersOnce (numbers ledger.armed)
     pub none_asked : ledger.asked ≡ None
     pub on : IsOn inner.client.stage
-    pub run : HasRun site.runs stands inner.client.stage c ledger inner.run
-    pub known : Agrees holds inner.client.stage ledger inner.run
-    pub comes : Comes (connection_plan site) now (Did (action_by ledger x)) (record { ledger = ledger; inner = inner })
+    pub run : HasRun v inner.client.stage c.run (waits_of c.waits) ledger inner.run
+    pub known : Agrees v.meaning.plan v.meaning.holds inner.client.stage ledger inner.run
+    pub comes : Comes (connection_plan (service v)) now (Did (action_by ledger x)) (record { ledger = ledger; inner = inner })
     pub leads : did ≡ before u.acts.items
-        (let b = entered (Did (action_by ledger x)) ledger in perform (connection_turn site now (Did (action_by ledger x)) b inner) b inner)
+        (let b = entered (Did (action_by ledger x)) ledger in perform (connection_turn (service v) now (Did (action_by ledger x)) b inner) b inner)
 
   abbrev pub MayShow : Seen → Connection R → Turn J → Type 0
   MayShow x c u = (did : Performed J (Both I)) × Shown x did c u
 
   -- its turn comes to its end
   abbrev pub Shows : Seen → Connection R → Turn J → Connection R → Turn J → Type 0
-  Shows x c u c' u' = (did : Performed J (Both I)) → Shown x did c u → Came site.runs holds stands did c' u'
+  Shows x c u c' u' = (did : Performed J (Both I)) → Shown x did c u → Came v did c' u'
 
   -- a turn in which a run that goes on is told this, and then these moves come
   pub record ToRun (x : RunSeen) (did : Performed J (Both I)) (c : Connection R) (u : Turn J) (m : Move J (Both I)) : Type 0 where
     pub ledger : Ledger J
     pub inner : Both I
     pub serves : Serves c u (entered_as x ledger) inner
-    pub run : HasRun site.runs stands inner.client.stage c ledger inner.run
-    pub known : Agrees holds inner.client.stage ledger inner.run
-    pub comes : MayCome site.runs now x ledger inner.run
-    pub leads : did ≡ before u.acts.items (perform (to_run site now m inner.client.stage x) (entered_as x ledger) inner)
+    pub run : HasRun v inner.client.stage c.run (waits_of c.waits) ledger inner.run
+    pub known : AgreesWithin v.meaning.holds inner.client.stage ledger inner.run
+    pub comes : inner.client.stage ≡ stage.Busy → MayCome v.meaning.plan now x ledger inner.run
+    pub goes_on : is_of_client x ≡ false → is_own_turn x ≡ true → inner.client.stage ≡ stage.Busy
+    pub leads : did ≡ before u.acts.items (perform (to_run (service v) now m inner.client.stage x) (entered_as x ledger) inner)
 
   abbrev pub MayTellRun : RunSeen → Connection R → Turn J → Type 0
   MayTellRun x c u = (did : Performed J (Both I)) × (m : Move J (Both I)) × ToRun x did c u m
 
   abbrev pub TellsRun : RunSeen → Bool → Connection R → Turn J → Connection R → Turn J → Type 0
-  TellsRun x on c u c' u' = (did : Performed J (Both I)) (m : Move J (Both I)) → ToRun x did c u m → Went site.runs holds stands on did c' u' m
+  TellsRun x on c u c' u' = (did : Performed J (Both I)) (m : Move J (Both I)) → ToRun x did c u m → Went v on did c' u' m
 
   -- and then what is there is settled
   abbrev pub MayGoOn : RunSeen → Connection R → Turn J → Type 0
-  MayGoOn x c u = (did : Performed J (Both I)) × ToRun x did c u (settle site now)
+  MayGoOn x c u = (did : Performed J (Both I)) × ToRun x did c u (settle (service v) now)
 
   abbrev pub GoesOn : RunSeen → Connection R → Turn J → Connection R → Turn J → Type 0
-  GoesOn x c u c' u' = (did : Performed J (Both I)) → ToRun x did c u (settle site now) → Came site.runs holds stands did c' u'
+  GoesOn x c u c' u' = (did : Performed J (Both I)) → ToRun x did c u (settle (service v) now) → Came v did c' u'
 
 module _ {J I : Type 0} (site : Service J I) (now : ℕ) where
   -- at a stage, after bytes that were answered so: a run that waits for more of the body may get it, else the answer is heard; and what is there is settled

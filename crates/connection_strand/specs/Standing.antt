@@ -8,17 +8,19 @@ use Rattle.strand_plans.specs.Questions as question
 use Rattle.strand_plans.specs.Ledgers.{Ledger, numbers, is_place, has_offer}
 use Rattle.strand_plans.specs.Moves.{Move, Performed, perform}
 use Rattle.strand_plans.specs.Tidiness.{NumbersOnce}
-use Rattle.run_contract.specs.declared.turns.Said.{Said}
-use Rattle.run_contract.specs.Runs.{RunPlan, says_over}
+use Rattle.run_contract.specs.declared.turns.RunAct.{RunAct}
+use Rattle.run_contract.specs.Deeds.{Deed, Asks, Nothing, ledger_after, ledger_asking, made_after, made_asking, says_over}
+use Rattle.run_contract.specs.Runs.{Waits, waits_did}
 use Rattle.run_contract.specs.Conditions.{IsBlank}
 use Rattle.connection_plan.specs.Clients.{Stage}
 use Rattle.connection_plan.specs.Clients as stage
 use Rattle.connection_plan.specs.Services.{Both}
 use Rattle.connection_plan.specs.Turns.{is_there}
-use Rattle.connection_plan.specs.Conditions.{Agrees}
+use Rattle.connection_plan.specs.Conditions.{AgreesWithin}
 use Rattle.connection_strand.specs.declared.state.Connection.{Connection}
 use Rattle.connection_strand.specs.declared.state.Turn.{Turn}
 use Rattle.connection_strand.specs.Kept.{kept, kept_of, waits_of}
+use Rattle.connection_strand.specs.Views.{View}
 
 -- what is open: the client's place first, then the run's sockets as it got them
 abbrev pub places : Bool → List ℕ → List Place
@@ -40,32 +42,33 @@ IsFree stage.Busy = ⊥
 IsFree stage.Over = ⊥
 IsFree st = Unit {0}
 
--- How far a turn is: the stage; of the turn that the run took the question with which it ends, and whether the run is over then.
+-- How far a turn is: the stage; and of the turn of the run that is being taken what is still to be done, with what it ends, and what is left of it in code.
 pub record Moment (J : Type 0) : Type 0 where
   pub stage : Stage
-  pub asks : Option (Question J)
-  pub over : Bool
+  pub does : List Deed
+  pub asks : Asks J
+  pub rest : List (RunAct J)
 
--- the run took no turn, or it is done but for its question
-abbrev pub asks_at : {J : Type 0} → Stage → Option (Question J) → Moment J
-asks_at st q = record { stage = st; asks = q; over = false }
-
+-- the run takes no turn, or all of it is done
 abbrev pub plain : {J : Type 0} → Stage → Moment J
-plain st = asks_at st None
+plain st = record { stage = st; does = []; asks = Nothing; rest = [] }
 
--- the run still says something
-abbrev pub speaking : {J : Type 0} → Option (Question J) → Bool → Moment J
-speaking q over = record { stage = stage.Busy; asks = q; over = over }
+abbrev pub taking : {J : Type 0} → Stage → List Deed → Asks J → List (RunAct J) → Moment J
+taking st ds a rest = record { stage = st; does = ds; asks = a; rest = rest }
 
--- the ledger, once the question is asked
-abbrev pub asking : {J : Type 0} → Option (Question J) → Ledger J → Ledger J
-asking q b = record b { asked = q }
+-- the ledger with which the run's turn ends
+abbrev pub at_end : {J : Type 0} → Moment J → Ledger J → Ledger J
+at_end e b = ledger_asking e.asks (ledger_after e.does b)
 
-module _ {R J I : Type 0} (plan : RunPlan J I) (stands : R → Ledger J → I → Type 0) where
+-- what the code returns of what is still to be done
+abbrev pub made_of : {J : Type 0} → Moment J → Ledger J → List (RunAct J)
+made_of e b = made_after e.does b ++ made_asking e.asks (ledger_after e.does b)
+
+module _ {R J I : Type 0} (v : View R J I) where
   -- a busy connection has a run, which stands for the plan's, and waits as it does
-  abbrev pub HasRun : Stage → Connection R → Ledger J → I → Type 0
-  HasRun stage.Busy c b r = (run : R) × (c.run ≡ Some run) × stands run b r × (waits_of c.waits ≡ plan.waits r)
-  HasRun st c b r = Unit {0}
+  abbrev pub HasRun : Stage → Option R → Waits → Ledger J → I → Type 0
+  HasRun stage.Busy o w b r = (run : R) × (o ≡ Some run) × v.meaning.stands run b r × (w ≡ v.meaning.plan.waits r)
+  HasRun st o w b r = Unit {0}
 
   -- between turns: the client, the open sockets and the run are as the plan has them
   pub record Stays (c : Connection R) (b : Ledger J) (s : Both I) : Type 0 where
@@ -74,7 +77,7 @@ module _ {R J I : Type 0} (plan : RunPlan J I) (stands : R → Ledger J → I �
     pub count : c.count ≡ b.count
     pub keeping : c.keeping ≡ kept_sock b.asked
     pub on : IsOn s.client.stage
-    pub run : HasRun s.client.stage c b s.run
+    pub run : HasRun s.client.stage c.run (waits_of c.waits) b s.run
 
 -- within a turn: the client and the sockets are as the plan has them, and so is whether the client's offer is queued or begun
 pub record Serves {R J I : Type 0} (c : Connection R) (u : Turn J) (b : Ledger J) (s : Both I) : Type 0 where
@@ -89,18 +92,23 @@ pub record Serves {R J I : Type 0} (c : Connection R) (u : Turn J) (b : Ledger J
   pub none_asked : b.asked ≡ None
   pub on : IsOn s.client.stage
 
+-- a run that goes on has the answer to whatever it asked its connection
+abbrev pub IsUnasked : {R : Type 0} → Connection R → Type 0
+IsUnasked c = (kept c.client).stage ≡ stage.Busy → c.waits.asks ≡ None
+
 -- the acts so far come before those that are still to be performed
 abbrev pub before : {J S : Type 0} → List (Act J) → Performed J S → Performed J S
 before acts did = record { state = did.state; acts = acts ++ did.acts }
 
-module _ {R J I : Type 0} (plan : RunPlan J I) (holds : Ledger J → I → Type 0) (stands : R → Ledger J → I → Type 0) where
+module _ {R J I : Type 0} (v : View R J I) where
   -- and the run
   pub record Within (e : Moment J) (c : Connection R) (u : Turn J) (b : Ledger J) (s : Both I) : Type 0 where
     pub serves : Serves c u b s
     pub at : s.client.stage ≡ e.stage
-    pub run : HasRun plan stands e.stage c (asking e.asks b) s.run
-    pub known : Agrees holds e.stage (asking e.asks b) s.run
-    pub blank : e.over ≡ true → IsBlank (asking e.asks b)
+    pub run : HasRun v e.stage c.run (waits_did e.does (waits_of c.waits)) (at_end e b) s.run
+    pub known : AgreesWithin v.meaning.holds e.stage (at_end e b) s.run
+    pub blank : says_over e.does ≡ true → IsBlank (at_end e b)
+    pub made : e.rest ≡ made_of e b
 
   -- at some moment of a turn, at this stage or another
   abbrev pub IsAt : Stage → Connection R → Turn J → Type 0
@@ -123,7 +131,7 @@ module _ {R J I : Type 0} (plan : RunPlan J I) (holds : Ledger J → I → Type 
   -- a turn that came to it: nothing is left of it
   pub record Came (did : Performed J (Both I)) (c : Connection R) (u : Turn J) : Type 0 where
     pub acts : did.acts ≡ u.acts.items
-    pub stays : did.state.ledger.ended ≡ false → Stays plan stands c did.state.ledger did.state.inner
+    pub stays : did.state.ledger.ended ≡ false → Stays v c did.state.ledger did.state.inner
     pub taking : is_there did.state.ledger ≡ true → c.is_taking ≡ is_place place.Client did.state.ledger.begun
 
   -- a turn that goes on with these moves, or came to its end
@@ -137,10 +145,9 @@ module _ {R J I : Type 0} (plan : RunPlan J I) (holds : Ledger J → I → Type 
   abbrev pub Goes : (Move J (Both I) → Move J (Both I)) → Connection R → Turn J → Connection R → Turn J → Type 0
   Goes f c u c' u' = (e : Moment J) (did : Performed J (Both I)) (m : Move J (Both I)) → Toward e did c u (f m) → Toward e did c' u' m
 
-  -- it makes them, while the run speaks
-  abbrev pub Speaks : (Move J (Both I) → Move J (Both I)) → Connection R → Turn J → Connection R → Turn J → Type 0
-  Speaks f c u c' u' = (q : Option (Question J)) (over : Bool) (did : Performed J (Both I)) (m : Move J (Both I))
-      → Toward (speaking q over) did c u (f m) → Toward (speaking q over) did c' u' m
+  -- it makes them at this stage, between the run's turns
+  abbrev pub GoesAt : Stage → (Move J (Both I) → Move J (Both I)) → Connection R → Turn J → Connection R → Turn J → Type 0
+  GoesAt st f c u c' u' = (did : Performed J (Both I)) (m : Move J (Both I)) → Toward (plain st) did c u (f m) → Toward (plain st) did c' u' m
 
   -- its turn ends with them
   abbrev pub Ends : Move J (Both I) → Connection R → Turn J → Connection R → Turn J → Type 0
@@ -157,27 +164,3 @@ module _ {R J I : Type 0} (plan : RunPlan J I) (holds : Ledger J → I → Type 
   -- it makes some of these moves, and goes on with them, or its turn ends
   abbrev pub Steps : Bool → Move J (Both I) → Connection R → Turn J → Connection R → Turn J → Type 0
   Steps on m c u c' u' = (st : Stage) (did : Performed J (Both I)) → Toward (plain st) did c u m → Went on did c' u' m
-
-  -- ---- what a run says
-
-  -- it goes on saying these, or said its last word
-  abbrev pub SaidTo : Bool → (List Said → Move J (Both I) → Move J (Both I)) → Option (Question J) → Bool → List Said → Performed J (Both I)
-      → Connection R → Turn J → Move J (Both I) → Type 0
-  SaidTo true says q over more did c u m = Toward (speaking q over) did c u (says more m)
-  SaidTo false says q over more did c u m = Toward (asks_at stage.Flush q) did c u m
-
-  -- it said its last word by these
-  abbrev pub Silences : (Move J (Both I) → Move J (Both I)) → Connection R → Turn J → Connection R → Turn J → Type 0
-  Silences f c u c' u' = (q : Option (Question J)) (did : Performed J (Both I)) (m : Move J (Both I))
-      → Toward (speaking q true) did c u (f m) → Toward (asks_at stage.Flush q) did c' u' m
-
-  -- it said this, before it says more
-  abbrev pub SaysOn : Bool → (List Said → Move J (Both I) → Move J (Both I)) → Said → Connection R → Turn J → Connection R → Turn J → Type 0
-  SaysOn on says word c u c' u' = (q : Option (Question J)) (over : Bool) (more : List Said) (did : Performed J (Both I)) (m : Move J (Both I))
-      → (says_over (word ∷ more) ≡ true → over ≡ true) → Toward (speaking q over) did c u (says (word ∷ more) m) → SaidTo on says q over more did c' u' m
-
-  -- it said all of these
-  abbrev pub Says : (List Said → Move J (Both I) → Move J (Both I)) → List Said → Connection R → Turn J → Connection R → Turn J → Type 0
-  Says says words c u c' u' = (q : Option (Question J)) (over : Bool) (did : Performed J (Both I)) (m : Move J (Both I))
-      → (says_over words ≡ true → over ≡ true)
-      → Toward (speaking q over) did c u (says words m) → (st : Stage) × Toward (asks_at st q) did c' u' m

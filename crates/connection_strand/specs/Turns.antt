@@ -1,10 +1,9 @@
 -- What turns of a run come to within those of their connection.
-use Rattle.std.specs.Prelude.{◌≡◌, ℕ, Bool, true, false, Option, Some, None, [], ◌∷◌, ◌++◌}
+use Rattle.std.specs.Prelude.{◌≡◌, ℕ, Bool, true, false, Option, Some, None, List, [], ◌∷◌}
 use Rattle.client_line.specs.declared.requests.LineOut.{LineOut}
 use Rattle.client_line.specs.declared.requests.LineOut.TheVariants as out
 use Rattle.client_line.specs.Records.{At}
 use Rattle.client_line.specs.Records as line
-use Rattle.strand_contract.specs.declared.turns.Act.{Act}
 use Rattle.strand_contract.specs.declared.turns.Answer.{Answer}
 use Rattle.strand_contract.specs.Actions.{Action, Did}
 use Rattle.strand_contract.specs.Calls.{answered}
@@ -12,19 +11,25 @@ use Rattle.strand_plans.specs.Questions.{asking_if}
 use Rattle.strand_plans.specs.Ledgers.{Ledger, entered}
 use Rattle.strand_plans.specs.Moves.{Move, Performed, perform}
 use Rattle.run_contract.specs.declared.turns.RunSeen.{RunSeen}
+use Rattle.run_contract.specs.declared.turns.RunAct.{RunAct}
+use Rattle.run_contract.specs.declared.turns.RunAct.TheVariants as made
 use Rattle.run_contract.specs.declared.turns.RunTurn.{RunTurn}
-use Rattle.run_contract.specs.Runs.{performed}
-use Rattle.run_contract.specs.Runs as runs
-use Rattle.run_contract.specs.Forms.{IsOwn}
-use Rattle.run_contract.specs.Conditions.{entered_as, MayCome, IsLeft}
+use Rattle.run_contract.specs.declared.turns.Said.{Said}
+use Rattle.run_contract.specs.declared.turns.Said.TheVariants as said
+use Rattle.run_contract.specs.declared.turns.Asking.{Asking}
+use Rattle.run_contract.specs.Deeds.{Deed, Say, Asks}
+use Rattle.run_contract.specs.Conditions.{entered_as, MayCome}
+use Rattle.connection_plan.specs.Clients.{Stage}
 use Rattle.connection_plan.specs.Clients as stage
-use Rattle.connection_plan.specs.Services.{Service, Both}
-use Rattle.connection_plan.specs.Turns.{run_turn, tell}
+use Rattle.connection_plan.specs.Services.{Both}
+use Rattle.connection_plan.specs.Lifts.{lifted}
+use Rattle.connection_plan.specs.Turns.{says, asks_then, run_turn, tell, settle}
 use Rattle.connection_strand.specs.declared.state.Connection.{Connection}
 use Rattle.connection_strand.specs.declared.state.Turn.{Turn}
-use Rattle.connection_strand.specs.Acts.{kept_socket}
+use Rattle.connection_strand.specs.Acts.{sockets_with, count_with}
 use Rattle.connection_strand.specs.Kept.{waits_of}
-use Rattle.connection_strand.specs.Standing.{Serves, before}
+use Rattle.connection_strand.specs.Standing.{Moment, plain, taking, Serves, Toward, Came, Went, before}
+use Rattle.connection_strand.specs.Views.{View, service}
 
 -- a refusal leads to the end of what is read, or to a fault in a body that is dropped
 abbrev pub IsRefusedAt : At → Type 0
@@ -36,12 +41,22 @@ abbrev pub IsAnswered : LineOut → At → Type 0
 IsAnswered (out.Refused code) at = IsRefusedAt at
 IsAnswered answer at = Unit {0}
 
--- the question is asked, or there is none
-abbrev pub Asks : {R J : Type 0} → Bool → Option (Act J) → Connection R → Turn J → Connection R → Turn J → Type 0
-Asks true q c u c' u' = (q ≡ None) × (c' ≡ c) × (u' ≡ u)
-Asks {R} {J} false q c u c' u' = (a : Act J) × (q ≡ Some a) × (c' ≡ record c { keeping = kept_socket a }) × (u'.acts.items ≡ u.acts.items ++ a ∷ [])
+-- the run asks this of its connection, or nothing
+abbrev pub with_asks : {R : Type 0} → Option Asking → Connection R → Connection R
+with_asks q c = record c { waits = record c.waits { asks = q } }
 
-module _ {R J I : Type 0} (site : Service J I) (holds : Ledger J → I → Type 0) (stands : R → Ledger J → I → Type 0) (now : ℕ) where
+-- the stage after a run said a word
+abbrev pub stage_after : Said → Stage → Stage
+stage_after said.Over st = stage.Flush
+stage_after w st = st
+
+-- it is as before, but for what the answer does to its sockets
+pub record TookIn {R : Type 0} (given : Answer) (c d : Connection R) : Type 0 where
+  pub sockets : d.sockets.items ≡ sockets_with given c.keeping c.count c.sockets.items
+  pub count : d.count ≡ count_with given c.count
+  pub kept : d ≡ record c { sockets = d.sockets; count = d.count; keeping = None }
+
+module _ {R J I : Type 0} (v : View R J I) (now : ℕ) where
   -- a turn of the connection in which its run is told this; the ledger is that before it was entered
   pub record Told (x : RunSeen) (did : Performed J (Both I)) (c : Connection R) (u : Turn J) (m : Move J (Both I)) : Type 0 where
     pub ledger : Ledger J
@@ -50,11 +65,11 @@ module _ {R J I : Type 0} (site : Service J I) (holds : Ledger J → I → Type 
     pub busy : inner.client.stage ≡ stage.Busy
     pub run : R
     pub is : c.run ≡ Some run
-    pub standing : stands run ledger inner.run
-    pub waits : waits_of c.waits ≡ site.runs.waits inner.run
-    pub known : holds ledger inner.run
-    pub comes : MayCome site.runs now x ledger inner.run
-    pub leads : did ≡ before u.acts.items (perform (tell site now x m) (entered_as x ledger) inner)
+    pub standing : v.meaning.stands run ledger inner.run
+    pub waits : waits_of c.waits ≡ v.meaning.plan.waits inner.run
+    pub known : v.meaning.holds ledger inner.run
+    pub comes : MayCome v.meaning.plan now x ledger inner.run
+    pub leads : did ≡ before u.acts.items (perform (tell (service v) now x m) (entered_as x ledger) inner)
 
   -- a turn in which it is given this answer
   pub record Answered (given : Answer) (did : Performed J (Both I)) (c : Connection R) (u : Turn J) (m : Move J (Both I)) : Type 0 where
@@ -66,24 +81,48 @@ module _ {R J I : Type 0} (site : Service J I) (holds : Ledger J → I → Type 
     pub busy : inner.client.stage ≡ stage.Busy
     pub run : R
     pub is : c.run ≡ Some run
-    pub standing : stands run ledger inner.run
-    pub waits : waits_of c.waits ≡ site.runs.waits inner.run
-    pub known : holds ledger inner.run
+    pub standing : v.meaning.stands run ledger inner.run
+    pub waits : waits_of c.waits ≡ v.meaning.plan.waits inner.run
+    pub known : v.meaning.holds ledger inner.run
     pub leads : did ≡ before u.acts.items
-        (perform (run_turn site now (site.runs.answered now action (entered (Did action) ledger) inner.run) m) (entered (Did action) ledger) inner)
+        (perform (run_turn (service v) now (v.meaning.plan.answered now action (entered (Did action) ledger) inner.run) m) (entered (Did action) ledger) inner)
 
-  -- a turn in which the run took its own: with these acts, and saying this
-  pub record Took (next : RunTurn J) (did : Performed J (Both I)) (c : Connection R) (u : Turn J) (m : Move J (Both I)) : Type 0 where
-    pub ledger : Ledger J
-    pub inner : Both I
-    pub turn : runs.Turn J I
-    pub serves : Serves c u ledger inner
-    pub busy : inner.client.stage ≡ stage.Busy
-    pub run : R
-    pub is : c.run ≡ Some run
-    pub standing : let made = performed turn ledger inner.run in stands run made.state.ledger made.state.inner
-    pub acts : next.acts.items ≡ (performed turn ledger inner.run).acts
-    pub said : next.said.items ≡ turn.said
-    pub left : IsLeft site.runs holds (waits_of c.waits) turn.said (performed turn ledger inner.run)
-    pub own : IsOwn turn.moves
-    pub leads : did ≡ before u.acts.items (perform (run_turn site now turn m) ledger inner)
+  -- ---- while the run's turn is taken
+
+  -- at this stage these deeds are still to be done, then the run asks this, and then come these moves; `rest` is what is left of its turn in code
+  abbrev pub TowardBy : Stage → List Deed → Asks J → List (RunAct J) → Performed J (Both I) → Connection R → Turn J → Move J (Both I) → Type 0
+  TowardBy st ds a rest did c u m = Toward v (taking st ds a rest) did c u (lifted (says (service v) now) ds (asks_then (service v) now a m))
+
+  -- what is left of the run's turn is still to be taken; or a question to the outside, which is the last of it, ended the turn
+  abbrev pub Takes : Bool → List (RunAct J) → Performed J (Both I) → Connection R → Turn J → Move J (Both I) → Type 0
+  Takes true rest did c u m = (st : Stage) × (ds : List Deed) × (a : Asks J) × TowardBy st ds a rest did c u m
+  Takes false rest did c u m = (rest ≡ []) × Came v did c u
+
+  -- the run took this turn, of which nothing is done yet
+  abbrev pub Took : RunTurn J → Performed J (Both I) → Connection R → Turn J → Move J (Both I) → Type 0
+  Took next did c u m = Takes true next.does.items did (with_asks next.asks c) u m
+
+  -- a call takes this turn of the run
+  abbrev pub TakesTurn : Bool → RunTurn J → Connection R → Turn J → Connection R → Turn J → Type 0
+  TakesTurn on next c u c' u' = (did : Performed J (Both I)) (m : Move J (Both I)) → Took next did c u m → Went v on did c' u' m
+
+  -- it takes this part of one
+  abbrev pub TakesPart : Bool → RunAct J → Connection R → Turn J → Connection R → Turn J → Type 0
+  TakesPart on x c u c' u' = (rest : List (RunAct J)) (did : Performed J (Both I)) (m : Move J (Both I)) → Takes true (x ∷ rest) did c u m → Takes on rest did c' u' m
+
+  -- it hears this word
+  abbrev pub HearsWord : Said → Connection R → Turn J → Connection R → Turn J → Type 0
+  HearsWord w c u c' u' = (st : Stage) (ds : List Deed) (a : Asks J) (rest : List (RunAct J)) (did : Performed J (Both I)) (m : Move J (Both I))
+      → Toward v (taking st (Say w ∷ ds) a (made.Say w ∷ rest)) did c u (says (service v) now w m) → Toward v (taking (stage_after w st) ds a rest) did c' u' m
+
+  -- ---- an answer from the outside
+
+  -- its turn begins with this answer, and comes to its end: the run is given it once the sockets are as the answer has them, and what is there is settled
+  abbrev pub IsGiven : Answer → Performed J (Both I) → Connection R → Turn J → Type 0
+  IsGiven given did c u = (d : Connection R) → TookIn given c d → Answered given did d u (settle (service v) now)
+
+  abbrev pub MayTakeAnswer : Answer → Connection R → Turn J → Type 0
+  MayTakeAnswer given c u = (did : Performed J (Both I)) × IsGiven given did c u
+
+  abbrev pub TakesAnswer : Answer → Connection R → Turn J → Connection R → Turn J → Type 0
+  TakesAnswer given c u c' u' = (did : Performed J (Both I)) → IsGiven given did c u → Came v did c' u'

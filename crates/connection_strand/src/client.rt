@@ -7,7 +7,7 @@ use client_line::Line;
 use connection_plan::Times;
 use http_bodies::BodyRead;
 use resty_base::{Bytes, Ms};
-use run_contract::RunSeen;
+use run_contract::{LocationTimes, RunSeen};
 use std::alloc::{AllocError, Global};
 
 /// How far the client's request is.
@@ -151,7 +151,7 @@ impl Client {
     ghost use Rattle.connection_plan.specs.Clients as stage;
     ghost use Rattle.connection_plan.specs.Turns.{is_more};
     ghost use Rattle.connection_plan.specs.Serving as serving;
-    ghost use Rattle.connection_strand.specs.Kept.{kept, timer_of, fresh, with_armed, is_armed, all_taken, wants_offer, seen_of_body};
+    ghost use Rattle.connection_strand.specs.Kept.{kept, timer_of, fresh, with_armed, is_armed, with_times, all_taken, wants_offer, seen_of_body, seen_of_taken};
 
     /// As a connection begins, for a client or for a job; takes no memory.
     pub(crate) fn new(alloc: Global, times: Times, is_open: bool) -> Client
@@ -187,6 +187,15 @@ impl Client {
         self.reply = Reply::Unsent;
         self.expects = expects;
         self.waited = false;
+    }
+
+    /// Another location answers the request: its times count from now on.
+    pub(crate) fn set_times(&mut self, times: LocationTimes)
+        ensures { kept self.new ≡ with_times times (kept self.old) }
+    {
+        self.times.keepalive = times.keepalive;
+        self.times.body = times.body;
+        self.times.send = times.send;
     }
 
     /// The timer's deadline is armed, or not.
@@ -251,6 +260,17 @@ impl Client {
             BodyRead::More if self.is_open && !self.has_ended => Ok(None),
             BodyRead::More => Ok(Some(RunSeen::BodyRefused(400))),
             BodyRead::Memory => Err(AllocError),
+        }
+    }
+
+    /// What a run is told that asks whether all that was sent is taken.
+    pub(crate) fn taken_seen(&self) -> RunSeen
+        ensures { result ≡ seen_of_taken (kept self.now) }
+    {
+        if self.is_all_taken() {
+            RunSeen::AllTaken
+        } else {
+            RunSeen::NotYet
         }
     }
 

@@ -13,7 +13,7 @@ use strand_contract::{Act, Place};
 use uri_args::Target;
 
 impl<R: ServiceContract> Connection<R> {
-    ghost use Rattle.std.specs.Prelude.{◌≡◌, ◌++◌, ◌+◌, ◌*◌, IfOk, true, false};
+    ghost use Rattle.std.specs.Prelude.{◌≡◌, ◌++◌, ◌+◌, ◌*◌, IfOk, None, true, false};
     ghost use Rattle.strand_contract.specs.declared.turns.Place.TheVariants as place;
     ghost use Rattle.client_line.specs.Lines.{held_in};
     ghost use Rattle.client_line.specs.Records as line;
@@ -23,8 +23,8 @@ impl<R: ServiceContract> Connection<R> {
     ghost use Rattle.connection_plan.specs.Clients as stage;
     ghost use Rattle.connection_plan.specs.Timers as timer;
     ghost use Rattle.connection_plan.specs.Turns.{change, send, finish, lose, begin, begin_timer, end_timer, wait_for, refuse, heard_by, next};
-    ghost use Rattle.connection_plan.specs.Serving.{service_of};
-    ghost use Rattle.connection_strand.specs.Standing.{Goes, Ends, Hears, IsFree, IsAt, IsWithin};
+    ghost use Rattle.connection_strand.specs.Views.{view_of, service};
+    ghost use Rattle.connection_strand.specs.Standing.{Goes, Ends, Hears, IsFree, IsAt, IsWithin, IsUnasked};
     ghost use Rattle.connection_strand.specs.Kept.{kept, stage_of, timer_of};
     ghost use Rattle.connection_strand.specs.Costs.{unit, Spends, Pays, Costs, Heard, Settles, Falls};
     ghost use Rattle.connection_strand.specs.Acts.{hang_ups};
@@ -47,7 +47,7 @@ impl<R: ServiceContract> Connection<R> {
         turn: &mut Turn<R::Job>,
         _site: &R::Site,
     ) -> Result<(), AllocError>
-        ensures moves { IfOk result (λ done. Ends (R.plan _site.now) (R.holds _site.now) (R.stands _site.now)
+        ensures moves { let view = view_of (R.meaning _site.now) (R.serving _site.now) in IfOk result (λ done. Ends view
             finish self.old turn.old self.new turn.new) }
         ensures costs { IfOk result (λ done. Costs R.left R.bound 0 self.old turn.old self.new turn.new) }
         ensures falls { IfOk result (λ done. Falls R.left R.bound self.old turn.old self.new turn.new) }
@@ -62,8 +62,9 @@ impl<R: ServiceContract> Connection<R> {
 
     /// The client is hung up, where it is there.
     fn hang_up(&mut self, turn: &mut Turn<R::Job>, _site: &R::Site) -> Result<(), AllocError>
-        ensures moves { IfOk result (λ done. Goes (R.plan _site.now) (R.holds _site.now) (R.stands _site.now)
+        ensures moves { let view = view_of (R.meaning _site.now) (R.serving _site.now) in IfOk result (λ done. Goes view
             (HangUp place.Client) self.old turn.old self.new turn.new) }
+        ensures waits { self.new.waits ≡ self.old.waits }
         ensures costs { IfOk result (λ done. Spends R.left R.bound 0 self.old turn.old self.new turn.new) }
         ensures pays { self.old.client.is_open ≡ true → IfOk result (λ done. Pays R.left R.bound 3 self.old turn.old self.new turn.new) }
     {
@@ -76,9 +77,10 @@ impl<R: ServiceContract> Connection<R> {
 
     /// The client is hung up, and nothing of it is waited for.
     fn let_client_go(&mut self, turn: &mut Turn<R::Job>, site: &R::Site) -> Result<(), AllocError>
-        ensures moves { let service = service_of (R.plan site.now) (R.serving site.now) in IfOk result (λ done.
-            Goes (R.plan site.now) (R.holds site.now) (R.stands site.now)
-            (λ m. HangUp place.Client (end_timer service 0 timer.Body (end_timer service 0 timer.Send m))) self.old turn.old self.new turn.new) }
+        ensures moves { let view = view_of (R.meaning site.now) (R.serving site.now) in IfOk result (λ done.
+            Goes view
+            (λ m. HangUp place.Client (end_timer (service view) 0 timer.Body (end_timer (service view) 0 timer.Send m))) self.old turn.old self.new turn.new) }
+        ensures waits { self.new.waits ≡ self.old.waits }
         ensures costs { IfOk result (λ done. Spends R.left R.bound 0 self.old turn.old self.new turn.new) }
         ensures pays { self.old.client.is_open ≡ true → IfOk result (λ done. Pays R.left R.bound 3 self.old turn.old self.new turn.new) }
     {
@@ -95,9 +97,10 @@ impl<R: ServiceContract> Connection<R> {
         site: &R::Site,
         now: Ms,
     ) -> Result<(), AllocError>
-        requires { IsAt (R.plan site.now) (R.holds site.now) (R.stands site.now) stage.Busy self.old turn.old }
-        ensures moves { IfOk result (λ done. Ends (R.plan site.now) (R.holds site.now) (R.stands site.now)
-            (lose (service_of (R.plan site.now) (R.serving site.now)) now.0) self.old turn.old self.new turn.new) }
+        requires within { let view = view_of (R.meaning site.now) (R.serving site.now) in IsAt view stage.Busy self.old turn.old }
+        requires unasked { self.old.waits.asks ≡ None }
+        ensures moves { let view = view_of (R.meaning site.now) (R.serving site.now) in IfOk result (λ done. Ends view
+            (lose (service view) now.0) self.old turn.old self.new turn.new) }
         ensures costs { IfOk result (λ done. Costs R.left R.bound 0 self.old turn.old self.new turn.new) }
         ensures falls { self.old.client.is_open ≡ true → IfOk result (λ done. Falls R.left R.bound self.old turn.old self.new turn.new) }
     {
@@ -116,9 +119,10 @@ impl<R: ServiceContract> Connection<R> {
         site: &R::Site,
         now: Ms,
     ) -> Result<(), AllocError>
-        requires { IsWithin (R.plan site.now) (R.holds site.now) (R.stands site.now) self.old turn.old }
-        ensures moves { IfOk result (λ done. Ends (R.plan site.now) (R.holds site.now) (R.stands site.now)
-            (lose (service_of (R.plan site.now) (R.serving site.now)) now.0) self.old turn.old self.new turn.new) }
+        requires within { let view = view_of (R.meaning site.now) (R.serving site.now) in IsWithin view self.old turn.old }
+        requires unasked { IsUnasked self.old }
+        ensures moves { let view = view_of (R.meaning site.now) (R.serving site.now) in IfOk result (λ done. Ends view
+            (lose (service view) now.0) self.old turn.old self.new turn.new) }
         ensures costs { IfOk result (λ done. Costs R.left R.bound 0 self.old turn.old self.new turn.new) }
         ensures falls { self.old.client.is_open ≡ true → IfOk result (λ done. Falls R.left R.bound self.old turn.old self.new turn.new) }
     {
@@ -140,9 +144,8 @@ impl<R: ServiceContract> Connection<R> {
         head: Head,
         target: Target,
     ) -> Result<bool, AllocError>
-        ensures moves { IfOk result (λ on. Hears (R.plan site.now) (R.holds site.now) (R.stands site.now) on
-            (λ rest. let service = service_of (R.plan site.now) (R.serving site.now) in
-            end_timer service now.0 timer.Header (begin service now.0 rest head target)) self.old turn.old self.new turn.new) }
+        ensures moves { let view = view_of (R.meaning site.now) (R.serving site.now) in IfOk result (λ on. Hears view on
+            (λ rest. end_timer (service view) now.0 timer.Header (begin (service view) now.0 rest head target)) self.old turn.old self.new turn.new) }
         ensures costs { IfOk result (λ done. Spends R.left R.bound (unit * (R.bound + 1)) self.old turn.old self.new turn.new) }
     {
         let times = R::times_of(site, &head, &target);
@@ -152,7 +155,7 @@ impl<R: ServiceContract> Connection<R> {
             Ok(()) => {
                 self.client.begin_request(times, expects);
                 self.waits = Waits::at_first(true);
-                self.adopt_run(turn, site, now, begun)
+                self.take_run(turn, site, now, begun)
             }
             Err(error) => Err(error),
         }
@@ -167,8 +170,8 @@ impl<R: ServiceContract> Connection<R> {
         now: Ms,
         code: u16,
     ) -> Result<(), AllocError>
-        ensures moves { let service = service_of (R.plan site.now) (R.serving site.now) in IfOk result (λ done.
-            Goes (R.plan site.now) (R.holds site.now) (R.stands site.now) (send service 0 (service.refusal code now.0)) self.old turn.old self.new turn.new) }
+        ensures moves { let view = view_of (R.meaning site.now) (R.serving site.now) in IfOk result (λ done.
+            Goes view (send (service view) 0 (view.serving.refusal code now.0)) self.old turn.old self.new turn.new) }
         ensures costs { IfOk result (λ done. Spends R.left R.bound unit self.old turn.old self.new turn.new) }
     {
         let reply = R::refusal(alloc, site, code, now)?;
@@ -185,8 +188,8 @@ impl<R: ServiceContract> Connection<R> {
         now: Ms,
         code: u16,
     ) -> Result<(), AllocError>
-        ensures moves { IfOk result (λ done. Hears (R.plan site.now) (R.holds site.now) (R.stands site.now) false
-            (λ rest. refuse (service_of (R.plan site.now) (R.serving site.now)) now.0 (line.Over code) code) self.old turn.old self.new turn.new) }
+        ensures moves { let view = view_of (R.meaning site.now) (R.serving site.now) in IfOk result (λ done. Hears view false
+            (λ rest. refuse (service view) now.0 (line.Over code) code) self.old turn.old self.new turn.new) }
         ensures costs { is_last (kept self.old.client).reply ≡ false → IfOk result (λ done. Costs R.left R.bound 0 self.old turn.old self.new turn.new) }
     {
         self.client.stage = Stage::Flush;
@@ -208,9 +211,8 @@ impl<R: ServiceContract> Connection<R> {
         now: Ms,
         code: u16,
     ) -> Result<(), AllocError>
-        ensures moves { IfOk result (λ done. IsRefusedAt self.old.client.line.came.at → Hears (R.plan site.now) (R.holds site.now) (R.stands site.now) false
-            (λ rest. let service = service_of (R.plan site.now) (R.serving site.now) in
-            Look (λ b s. end_timer service now.0 timer.Header (refuse service now.0 s.client.came.at code))) self.old turn.old self.new turn.new) }
+        ensures moves { let view = view_of (R.meaning site.now) (R.serving site.now) in IfOk result (λ done. IsRefusedAt self.old.client.line.came.at → Hears view false
+            (λ rest. Look (λ b s. end_timer (service view) now.0 timer.Header (refuse (service view) now.0 s.client.came.at code))) self.old turn.old self.new turn.new) }
         ensures costs { is_last (kept self.old.client).reply ≡ false → IfOk result (λ done. Costs R.left R.bound 0 self.old turn.old self.new turn.new) }
     {
         let held = self.client.line.held();
@@ -230,9 +232,9 @@ impl<R: ServiceContract> Connection<R> {
         stage: Stage,
         timer: Timer,
     ) -> Result<(), AllocError>
-        ensures moves { IfOk result (λ done. IsFree (stage_of stage) → Hears (R.plan site.now) (R.holds site.now) (R.stands site.now) false
+        ensures moves { let view = view_of (R.meaning site.now) (R.serving site.now) in IfOk result (λ done. IsFree (stage_of stage) → Hears view false
             (λ rest. change (λ c. record c { stage = stage_of stage })
-            (begin_timer (service_of (R.plan site.now) (R.serving site.now)) now.0 (timer_of timer) Done)) self.old turn.old self.new turn.new) }
+            (begin_timer (service view) now.0 (timer_of timer) Done)) self.old turn.old self.new turn.new) }
         ensures costs { IfOk result (λ done. Spends R.left R.bound 5 self.old turn.old self.new turn.new) }
     {
         self.client.stage = stage;
@@ -241,8 +243,8 @@ impl<R: ServiceContract> Connection<R> {
 
     /// What is waited for: more of a body that is dropped, the first byte of a head, or the rest of one.
     fn wait(&mut self, turn: &mut Turn<R::Job>, site: &R::Site, now: Ms) -> Result<(), AllocError>
-        ensures moves { IfOk result (λ done. Hears (R.plan site.now) (R.holds site.now) (R.stands site.now) false
-            (λ rest. Look (λ b s. wait_for (service_of (R.plan site.now) (R.serving site.now)) now.0 (held_in s.client.came.at s.client.came.held)))
+        ensures moves { let view = view_of (R.meaning site.now) (R.serving site.now) in IfOk result (λ done. Hears view false
+            (λ rest. Look (λ b s. wait_for (service view) now.0 (held_in s.client.came.at s.client.came.held)))
             self.old turn.old self.new turn.new) }
         ensures costs { IfOk result (λ done. Spends R.left R.bound 5 self.old turn.old self.new turn.new) }
     {
@@ -267,8 +269,8 @@ impl<R: ServiceContract> Connection<R> {
         now: Ms,
         anew: bool,
     ) -> Result<bool, AllocError>
-        ensures moves { IfOk result (λ on. Hears (R.plan site.now) (R.holds site.now) (R.stands site.now) on
-            (λ rest. Look (λ b s. heard_by (service_of (R.plan site.now) (R.serving site.now)) now.0 anew rest s.client.came s.client.ended answer.Waiting))
+        ensures moves { let view = view_of (R.meaning site.now) (R.serving site.now) in IfOk result (λ on. Hears view on
+            (λ rest. Look (λ b s. heard_by (service view) now.0 anew rest s.client.came s.client.ended answer.Waiting))
             self.old turn.old self.new turn.new) }
         ensures costs { IfOk result (λ on. Heard R.left R.bound answer.Waiting on self.old turn.old self.new turn.new) }
     {
@@ -290,8 +292,8 @@ impl<R: ServiceContract> Connection<R> {
         anew: bool,
         out: LineOut,
     ) -> Result<bool, AllocError>
-        ensures moves { IfOk result (λ on. IsAnswered out self.old.client.line.came.at → Hears (R.plan site.now) (R.holds site.now) (R.stands site.now) on
-            (λ rest. Look (λ b s. heard_by (service_of (R.plan site.now) (R.serving site.now)) now.0 anew rest s.client.came s.client.ended out))
+        ensures moves { let view = view_of (R.meaning site.now) (R.serving site.now) in IfOk result (λ on. IsAnswered out self.old.client.line.came.at → Hears view on
+            (λ rest. Look (λ b s. heard_by (service view) now.0 anew rest s.client.came s.client.ended out))
             self.old turn.old self.new turn.new) }
         ensures costs { is_last (kept self.old.client).reply ≡ false →
             IfOk result (λ on. Heard R.left R.bound out on self.old turn.old self.new turn.new) }
@@ -317,8 +319,8 @@ impl<R: ServiceContract> Connection<R> {
         site: &R::Site,
         now: Ms,
     ) -> Result<bool, AllocError>
-        ensures moves { IfOk result (λ on. Hears (R.plan site.now) (R.holds site.now) (R.stands site.now) on
-            (λ rest. Look (λ b s. next (service_of (R.plan site.now) (R.serving site.now)) now.0 rest s.client)) self.old turn.old self.new turn.new) }
+        ensures moves { let view = view_of (R.meaning site.now) (R.serving site.now) in IfOk result (λ on. Hears view on
+            (λ rest. Look (λ b s. next (service view) now.0 rest s.client)) self.old turn.old self.new turn.new) }
         ensures costs { is_last (kept self.old.client).reply ≡ false → IfOk result (λ on. Settles R.left R.bound on self.old turn.old self.new turn.new) }
     {
         self.client.line.done();

@@ -18,14 +18,15 @@ fn continue_reply() -> Bytes
 }
 
 impl<R: ServiceContract> Connection<R> {
-    ghost use Rattle.std.specs.Prelude.{IfOk, not, ◌∷◌, [], ◌*◌, length};
+    ghost use Rattle.std.specs.Prelude.{IfOk, ◌≡◌};
     ghost use Rattle.run_contract.specs.declared.turns.Said.TheVariants as said;
-    ghost use Rattle.run_contract.specs.Runs.{says_over};
     ghost use Rattle.strand_plans.specs.Moves.{Look};
-    ghost use Rattle.connection_plan.specs.Turns.{let_send, await_body, says};
-    ghost use Rattle.connection_plan.specs.Serving.{service_of};
+    ghost use Rattle.connection_plan.specs.Clients as stage;
+    ghost use Rattle.connection_plan.specs.Turns.{let_send, wait_more, await_body};
+    ghost use Rattle.connection_strand.specs.Views.{view_of, service};
     ghost use Rattle.connection_strand.specs.Costs.{unit, Spends};
-    ghost use Rattle.connection_strand.specs.Standing.{Goes, Speaks, Silences, Says, SaysOn};
+    ghost use Rattle.connection_strand.specs.Standing.{Goes, GoesAt};
+    ghost use Rattle.connection_strand.specs.Turns.{HearsWord};
 
     /// While nothing of the reply was sent, the first wait for more of a body lets the client send it.
     pub(crate) fn let_send(
@@ -33,8 +34,9 @@ impl<R: ServiceContract> Connection<R> {
         turn: &mut Turn<R::Job>,
         site: &R::Site,
     ) -> Result<(), AllocError>
-        ensures moves { IfOk result (λ done. Goes (R.plan site.now) (R.holds site.now) (R.stands site.now)
-            (λ m. Look (λ b s. let_send (service_of (R.plan site.now) (R.serving site.now)) 0 s.client s.client.reply m)) self.old turn.old self.new turn.new) }
+        ensures moves { let view = view_of (R.meaning site.now) (R.serving site.now) in IfOk result (λ done. Goes view
+            (λ m. Look (λ b s. let_send (service view) 0 s.client s.client.reply m)) self.old turn.old self.new turn.new) }
+        ensures waits { self.new.waits ≡ self.old.waits }
         ensures costs { IfOk result (λ done. Spends R.left R.bound 401 self.old turn.old self.new turn.new) }
     {
         match self.client.reply {
@@ -52,28 +54,45 @@ impl<R: ServiceContract> Connection<R> {
         }
     }
 
-    /// Where the run waits for more of the body the client may send it, and the timer begins.
+    /// More of the body is waited for: the client may send it, and the timer begins.
+    pub(crate) fn wait_more(
+        &mut self,
+        turn: &mut Turn<R::Job>,
+        site: &R::Site,
+        now: Ms,
+    ) -> Result<(), AllocError>
+        ensures moves { let view = view_of (R.meaning site.now) (R.serving site.now) in IfOk result (λ done. Goes view
+            (λ m. Look (λ b s. wait_more (service view) now.0 s.client m)) self.old turn.old self.new turn.new) }
+        ensures waits { self.new.waits ≡ self.old.waits }
+        ensures costs { IfOk result (λ done. Spends R.left R.bound 406 self.old turn.old self.new turn.new) }
+    {
+        match self.let_send(turn, site) {
+            Ok(()) => self.begin_timer(turn, site, now, Timer::Body),
+            Err(error) => Err(error),
+        }
+    }
+
+    /// A piece of the body came: where the run waits for more of it, the timer begins anew.
     pub(crate) fn await_body(
         &mut self,
         turn: &mut Turn<R::Job>,
         site: &R::Site,
         now: Ms,
     ) -> Result<(), AllocError>
-        ensures moves { IfOk result (λ done. Speaks (R.plan site.now) (R.holds site.now) (R.stands site.now)
-            (await_body (service_of (R.plan site.now) (R.serving site.now)) now.0) self.old turn.old self.new turn.new) }
-        ensures costs { IfOk result (λ done. Spends R.left R.bound 406 self.old turn.old self.new turn.new) }
+        ensures { let view = view_of (R.meaning site.now) (R.serving site.now) in IfOk result (λ done. GoesAt view stage.Busy
+            (await_body (service view) now.0) self.old turn.old self.new turn.new) }
     {
         if self.waits.body && self.client.awaits_body() {
-            self.let_send(turn, site)?;
-            self.begin_timer(turn, site, now, Timer::Body)?;
+            self.wait_more(turn, site, now)
+        } else {
+            Ok(())
         }
-        Ok(())
     }
 
     /// Nothing of the run is left to be done.
     fn end_run(&mut self, turn: &mut Turn<R::Job>, site: &R::Site) -> Result<(), AllocError>
-        ensures moves { IfOk result (λ done. Silences (R.plan site.now) (R.holds site.now) (R.stands site.now)
-            (says (service_of (R.plan site.now) (R.serving site.now)) 0 (said.Over ∷ [])) self.old turn.old self.new turn.new) }
+        ensures moves { let view = view_of (R.meaning site.now) (R.serving site.now) in IfOk result (λ done.
+            HearsWord view 0 said.Over self.old turn.old self.new turn.new) }
         ensures costs { IfOk result (λ done. Spends R.left R.bound unit self.old turn.old self.new turn.new) }
     {
         self.end_timer(turn, site, Timer::Body)?;
@@ -83,15 +102,15 @@ impl<R: ServiceContract> Connection<R> {
     }
 
     /// The run says this.
-    fn say(
+    pub(crate) fn hear_word(
         &mut self,
         turn: &mut Turn<R::Job>,
         site: &R::Site,
         now: Ms,
         word: &Said,
     ) -> Result<(), AllocError>
-        ensures moves { IfOk result (λ done. SaysOn (R.plan site.now) (R.holds site.now) (R.stands site.now) (not (says_over (word.now ∷ [])))
-            (says (service_of (R.plan site.now) (R.serving site.now)) now.0) word.now self.old turn.old self.new turn.new) }
+        ensures moves { let view = view_of (R.meaning site.now) (R.serving site.now) in IfOk result (λ done.
+            HearsWord view now.0 word.now self.old turn.old self.new turn.new) }
         ensures costs { IfOk result (λ done. Spends R.left R.bound unit self.old turn.old self.new turn.new) }
     {
         match word {
@@ -100,40 +119,19 @@ impl<R: ServiceContract> Connection<R> {
                 self.client.reply = self.client.reply.begun();
                 self.send(turn, site, bytes)
             }
-            Said::WantsBody(max) => {
-                self.client.limit = *max;
-                self.await_body(turn, site, now)
+            Said::WantsNoBody => {
+                self.waits.body = false;
+                self.end_timer(turn, site, Timer::Body)
             }
-            Said::WantsNoBody => self.end_timer(turn, site, Timer::Body),
-            Said::WantsAllTaken => Ok(()),
+            Said::Times(times) => {
+                self.client.set_times(*times);
+                Ok(())
+            }
             Said::Ended(closes) => {
                 self.client.reply = Reply::Whole(*closes);
                 Ok(())
             }
             Said::Over => self.end_run(turn, site),
         }
-    }
-
-    /// The run says these; what would come after the end doesn't count.
-    pub(crate) fn says(
-        &mut self,
-        turn: &mut Turn<R::Job>,
-        site: &R::Site,
-        now: Ms,
-        words: &[Said],
-    ) -> Result<(), AllocError>
-        ensures moves { IfOk result (λ done. Says (R.plan site.now) (R.holds site.now) (R.stands site.now)
-            (says (service_of (R.plan site.now) (R.serving site.now)) now.0) words.now self.old turn.old self.new turn.new) }
-        ensures costs { IfOk result (λ done. Spends R.left R.bound (unit * length words.now) self.old turn.old self.new turn.new) }
-    {
-        let mut rest = words;
-        while let [word, others @ ..] = rest {
-            self.say(turn, site, now, word)?;
-            match word {
-                Said::Over => return Ok(()),
-                _ => rest = others,
-            }
-        }
-        Ok(())
     }
 }

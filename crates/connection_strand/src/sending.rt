@@ -7,11 +7,11 @@ use std::alloc::AllocError;
 use strand_contract::{Act, Place};
 
 impl<R: ServiceContract> Connection<R> {
-    ghost use Rattle.std.specs.Prelude.{IfOk, [], ◌+◌, ◌*◌, length};
+    ghost use Rattle.std.specs.Prelude.{◌≡◌, IfOk, [], ◌+◌, ◌*◌, length};
     ghost use Rattle.strand_contract.specs.declared.turns.Place.TheVariants as place;
     ghost use Rattle.strand_plans.specs.Moves.{Send};
     ghost use Rattle.connection_plan.specs.Turns.{send};
-    ghost use Rattle.connection_plan.specs.Serving.{service_of};
+    ghost use Rattle.connection_strand.specs.Views.{view_of, service};
     ghost use Rattle.connection_strand.specs.Costs.{Spends};
     ghost use Rattle.connection_strand.specs.Standing.{Goes};
 
@@ -21,8 +21,9 @@ impl<R: ServiceContract> Connection<R> {
         turn: &mut Turn<R::Job>,
         _site: &R::Site,
     ) -> Result<(), AllocError>
-        ensures moves { IfOk result (λ done. Goes (R.plan _site.now) (R.holds _site.now) (R.stands _site.now)
+        ensures moves { let view = view_of (R.meaning _site.now) (R.serving _site.now) in IfOk result (λ done. Goes view
             (Send place.Client []) self.old turn.old self.new turn.new) }
+        ensures waits { self.new.waits ≡ self.old.waits }
         ensures costs { IfOk result (λ done. Spends R.left R.bound 1 self.old turn.old self.new turn.new) }
     {
         if self.client.wants_offer() && !turn.is_offered {
@@ -39,8 +40,9 @@ impl<R: ServiceContract> Connection<R> {
         site: &R::Site,
         bytes: &Bytes,
     ) -> Result<(), AllocError>
-        ensures moves { IfOk result (λ done. Goes (R.plan site.now) (R.holds site.now) (R.stands site.now)
-            (send (service_of (R.plan site.now) (R.serving site.now)) 0 bytes.now) self.old turn.old self.new turn.new) }
+        ensures moves { let view = view_of (R.meaning site.now) (R.serving site.now) in IfOk result (λ done. Goes view
+            (send (service view) 0 bytes.now) self.old turn.old self.new turn.new) }
+        ensures waits { self.new.waits ≡ self.old.waits }
         ensures costs { IfOk result (λ done. Spends R.left R.bound (16 * length bytes.now + 1) self.old turn.old self.new turn.new) }
     {
         if !self.client.is_open {

@@ -4,20 +4,22 @@ use crate::client::{Stage, Timer};
 use crate::state::{Connection, Turn};
 use connection_plan::ServiceContract;
 use resty_base::Ms;
-use run_contract::RunSeen;
+use run_contract::{Asking, RunSeen};
 use std::alloc::{AllocError, Global};
 
 impl<R: ServiceContract> Connection<R> {
-    ghost use Rattle.std.specs.Prelude.{◌≡◌, true, IfOk, Some};
+    ghost use Rattle.std.specs.Prelude.{◌≡◌, true, is_some, IfOk, Some, None};
     ghost use Rattle.strand_plans.specs.Moves.{Look};
-    ghost use Rattle.connection_plan.specs.Turns.{busy, ask_body, tell_body, flush, settle};
+    ghost use Rattle.run_contract.specs.declared.turns.Asking.TheVariants as asking;
+    ghost use Rattle.run_contract.specs.Conditions.{MayHear, asks_body};
+    ghost use Rattle.connection_plan.specs.Turns.{busy, waiting, answer_asked, answer_body, ask_body, tell_body, flush, settle};
     ghost use Rattle.connection_plan.specs.Clients as stage;
-    ghost use Rattle.connection_plan.specs.Serving.{service_of};
+    ghost use Rattle.connection_strand.specs.Views.{view_of, service};
     ghost use Rattle.connection_strand.specs.Costs.{unit, Pays, Costs, Settles};
-    ghost use Rattle.connection_strand.specs.Kept.{Kept, seen_of_body};
+    ghost use Rattle.connection_strand.specs.Kept.{Kept, seen_of_body, waits_of};
     ghost use Rattle.connection_strand.specs.Standing.{Ends, GoesOn, Hears, Steps, IsAt, IsWithin};
 
-    /// The run is told this of the body that it waits for.
+    /// The run is told this of the body that it asks or waits for.
     fn tell_body(
         &mut self,
         turn: &mut Turn<R::Job>,
@@ -26,11 +28,11 @@ impl<R: ServiceContract> Connection<R> {
         now: Ms,
         seen: RunSeen,
     ) -> Result<bool, AllocError>
-        requires within { IsAt (R.plan site.now) (R.holds site.now) (R.stands site.now) stage.Busy self.old turn.old }
-        requires body { self.old.waits.body ≡ true }
+        requires within { let view = view_of (R.meaning site.now) (R.serving site.now) in IsAt view stage.Busy self.old turn.old }
+        requires body { let w = waits_of self.old.waits in MayHear (asks_body w.asks) w.body w.asks }
         requires seen { (client : Kept) × (seen_of_body client ≡ Some seen) }
-        ensures moves { IfOk result (λ on. GoesOn (R.plan site.now) (R.holds site.now) (R.stands site.now) stage.Busy on
-            (λ again. tell_body (service_of (R.plan site.now) (R.serving site.now)) now.0 again (Some seen)) self.old turn.old self.new turn.new) }
+        ensures moves { let view = view_of (R.meaning site.now) (R.serving site.now) in IfOk result (λ on. GoesOn view stage.Busy on
+            (λ again. tell_body (service view) now.0 again (Some seen)) self.old turn.old self.new turn.new) }
         ensures costs { IfOk result (λ on. Pays R.left R.bound unit self.old turn.old self.new turn.new) }
     {
         match self.end_timer(turn, site, Timer::Body) {
@@ -39,7 +41,7 @@ impl<R: ServiceContract> Connection<R> {
         }
     }
 
-    /// The run gets the body that it waits for, or its refusal, unless more may come.
+    /// The run that waits for the body gets it, or its refusal, unless more may come.
     fn ask_body(
         &mut self,
         turn: &mut Turn<R::Job>,
@@ -47,10 +49,11 @@ impl<R: ServiceContract> Connection<R> {
         site: &R::Site,
         now: Ms,
     ) -> Result<bool, AllocError>
-        requires within { IsAt (R.plan site.now) (R.holds site.now) (R.stands site.now) stage.Busy self.old turn.old }
+        requires within { let view = view_of (R.meaning site.now) (R.serving site.now) in IsAt view stage.Busy self.old turn.old }
         requires body { self.old.waits.body ≡ true }
-        ensures moves { IfOk result (λ on. GoesOn (R.plan site.now) (R.holds site.now) (R.stands site.now) stage.Busy on
-            (λ again. Look (λ b s. ask_body (service_of (R.plan site.now) (R.serving site.now)) now.0 again b s.client)) self.old turn.old self.new turn.new) }
+        requires unasked { self.old.waits.asks ≡ None }
+        ensures moves { let view = view_of (R.meaning site.now) (R.serving site.now) in IfOk result (λ on. GoesOn view stage.Busy on
+            (λ again. Look (λ b s. ask_body (service view) now.0 again b s.client)) self.old turn.old self.new turn.new) }
         ensures costs { IfOk result (λ on. Settles R.left R.bound on self.old turn.old self.new turn.new) }
     {
         match self.client.body_seen(alloc)? {
@@ -59,17 +62,84 @@ impl<R: ServiceContract> Connection<R> {
         }
     }
 
-    /// A run that goes on is told what it waits for; a client that took the last reply is hung up.
-    fn busy(
+    /// The run is told that the body that it asks for isn't there yet; more of it is waited for.
+    fn put_off_body(
         &mut self,
         turn: &mut Turn<R::Job>,
         alloc: Global,
         site: &R::Site,
         now: Ms,
     ) -> Result<bool, AllocError>
-        requires { IsAt (R.plan site.now) (R.holds site.now) (R.stands site.now) stage.Busy self.old turn.old }
-        ensures moves { IfOk result (λ on. GoesOn (R.plan site.now) (R.holds site.now) (R.stands site.now) stage.Busy on
-            (λ again. Look (λ b s. busy (service_of (R.plan site.now) (R.serving site.now)) now.0 again b s)) self.old turn.old self.new turn.new) }
+        requires within { let view = view_of (R.meaning site.now) (R.serving site.now) in IsAt view stage.Busy self.old turn.old }
+        requires asks { is_some self.old.waits.asks ≡ true }
+        ensures moves { let view = view_of (R.meaning site.now) (R.serving site.now) in IfOk result (λ on. GoesOn view stage.Busy on
+            (λ again. answer_body (service view) now.0 again None) self.old turn.old self.new turn.new) }
+        ensures costs { IfOk result (λ on. Settles R.left R.bound on self.old turn.old self.new turn.new) }
+    {
+        match self.wait_more(turn, site, now) {
+            Ok(()) => self.tell(turn, alloc, site, now, RunSeen::NotYet),
+            Err(error) => Err(error),
+        }
+    }
+
+    /// The run that asks for the body is answered.
+    fn answer_body(
+        &mut self,
+        turn: &mut Turn<R::Job>,
+        alloc: Global,
+        site: &R::Site,
+        now: Ms,
+        max: u64,
+    ) -> Result<bool, AllocError>
+        requires within { let view = view_of (R.meaning site.now) (R.serving site.now) in IsAt view stage.Busy self.old turn.old }
+        requires asks { self.old.waits.asks ≡ Some (asking.Body max) }
+        ensures moves { let view = view_of (R.meaning site.now) (R.serving site.now) in IfOk result (λ on. GoesOn view stage.Busy on
+            (λ again. Look (λ b s. answer_asked (service view) now.0 again b s.client (asking.Body max))) self.old turn.old self.new turn.new) }
+        ensures costs { IfOk result (λ on. Settles R.left R.bound on self.old turn.old self.new turn.new) }
+    {
+        self.client.limit = max;
+        match self.client.body_seen(alloc)? {
+            Some(seen) => self.tell_body(turn, alloc, site, now, seen),
+            None => self.put_off_body(turn, alloc, site, now),
+        }
+    }
+
+    /// What the run asks is answered.
+    fn answer_asked(
+        &mut self,
+        turn: &mut Turn<R::Job>,
+        alloc: Global,
+        site: &R::Site,
+        now: Ms,
+        asking: Asking,
+    ) -> Result<bool, AllocError>
+        requires within { let view = view_of (R.meaning site.now) (R.serving site.now) in IsAt view stage.Busy self.old turn.old }
+        requires asks { self.old.waits.asks ≡ Some asking }
+        ensures moves { let view = view_of (R.meaning site.now) (R.serving site.now) in IfOk result (λ on. GoesOn view stage.Busy on
+            (λ again. Look (λ b s. answer_asked (service view) now.0 again b s.client asking)) self.old turn.old self.new turn.new) }
+        ensures costs { IfOk result (λ on. Settles R.left R.bound on self.old turn.old self.new turn.new) }
+    {
+        match asking {
+            Asking::Body(max) => self.answer_body(turn, alloc, site, now, max),
+            Asking::AllTaken => {
+                let seen = self.client.taken_seen();
+                self.tell(turn, alloc, site, now, seen)
+            }
+        }
+    }
+
+    /// The run that waits is told what is there; a client that took the last reply is hung up.
+    fn waiting(
+        &mut self,
+        turn: &mut Turn<R::Job>,
+        alloc: Global,
+        site: &R::Site,
+        now: Ms,
+    ) -> Result<bool, AllocError>
+        requires within { let view = view_of (R.meaning site.now) (R.serving site.now) in IsAt view stage.Busy self.old turn.old }
+        requires unasked { self.old.waits.asks ≡ None }
+        ensures moves { let view = view_of (R.meaning site.now) (R.serving site.now) in IfOk result (λ on. GoesOn view stage.Busy on
+            (λ again. Look (λ b s. waiting (service view) now.0 again b s)) self.old turn.old self.new turn.new) }
         ensures costs { IfOk result (λ on. Settles R.left R.bound on self.old turn.old self.new turn.new) }
     {
         if self.client.is_all_taken() && self.waits.taken {
@@ -87,6 +157,25 @@ impl<R: ServiceContract> Connection<R> {
         Ok(false)
     }
 
+    /// A run that goes on is answered what it asks, or told what it waits for.
+    fn busy(
+        &mut self,
+        turn: &mut Turn<R::Job>,
+        alloc: Global,
+        site: &R::Site,
+        now: Ms,
+    ) -> Result<bool, AllocError>
+        requires { let view = view_of (R.meaning site.now) (R.serving site.now) in IsAt view stage.Busy self.old turn.old }
+        ensures moves { let view = view_of (R.meaning site.now) (R.serving site.now) in IfOk result (λ on. GoesOn view stage.Busy on
+            (λ again. Look (λ b s. busy (service view) now.0 again b s)) self.old turn.old self.new turn.new) }
+        ensures costs { IfOk result (λ on. Settles R.left R.bound on self.old turn.old self.new turn.new) }
+    {
+        match self.waits.asks {
+            Some(asking) => self.answer_asked(turn, alloc, site, now, asking),
+            None => self.waiting(turn, alloc, site, now),
+        }
+    }
+
     /// The run is over: once all is taken the connection closes, or goes on with the next request.
     fn flush(
         &mut self,
@@ -95,8 +184,8 @@ impl<R: ServiceContract> Connection<R> {
         site: &R::Site,
         now: Ms,
     ) -> Result<bool, AllocError>
-        ensures moves { IfOk result (λ on. Hears (R.plan site.now) (R.holds site.now) (R.stands site.now) on
-            (λ again. Look (λ b s. flush (service_of (R.plan site.now) (R.serving site.now)) now.0 again b s.client)) self.old turn.old self.new turn.new) }
+        ensures moves { let view = view_of (R.meaning site.now) (R.serving site.now) in IfOk result (λ on. Hears view on
+            (λ again. Look (λ b s. flush (service view) now.0 again b s.client)) self.old turn.old self.new turn.new) }
         ensures costs { IfOk result (λ on. Settles R.left R.bound on self.old turn.old self.new turn.new) }
     {
         if !self.client.is_all_taken() {
@@ -117,9 +206,9 @@ impl<R: ServiceContract> Connection<R> {
         site: &R::Site,
         now: Ms,
     ) -> Result<bool, AllocError>
-        requires { IsWithin (R.plan site.now) (R.holds site.now) (R.stands site.now) self.old turn.old }
-        ensures moves { IfOk result (λ on. Steps (R.plan site.now) (R.holds site.now) (R.stands site.now) on
-            (settle (service_of (R.plan site.now) (R.serving site.now)) now.0) self.old turn.old self.new turn.new) }
+        requires { let view = view_of (R.meaning site.now) (R.serving site.now) in IsWithin view self.old turn.old }
+        ensures moves { let view = view_of (R.meaning site.now) (R.serving site.now) in IfOk result (λ on. Steps view on
+            (settle (service view) now.0) self.old turn.old self.new turn.new) }
         ensures costs { IfOk result (λ on. Settles R.left R.bound on self.old turn.old self.new turn.new) }
     {
         match self.client.stage {
@@ -137,9 +226,9 @@ impl<R: ServiceContract> Connection<R> {
         site: &R::Site,
         now: Ms,
     ) -> Result<(), AllocError>
-        requires { IsWithin (R.plan site.now) (R.holds site.now) (R.stands site.now) self.old turn.old }
-        ensures moves { IfOk result (λ done. Ends (R.plan site.now) (R.holds site.now) (R.stands site.now)
-            (settle (service_of (R.plan site.now) (R.serving site.now)) now.0) self.old turn.old self.new turn.new) }
+        requires { let view = view_of (R.meaning site.now) (R.serving site.now) in IsWithin view self.old turn.old }
+        ensures moves { let view = view_of (R.meaning site.now) (R.serving site.now) in IfOk result (λ done. Ends view
+            (settle (service view) now.0) self.old turn.old self.new turn.new) }
         ensures costs { IfOk result (λ done. Costs R.left R.bound 5 self.old turn.old self.new turn.new) }
     {
         let mut goes_on = true;

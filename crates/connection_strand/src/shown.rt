@@ -23,9 +23,9 @@ impl<R: ServiceContract> Connection<R> {
     ghost use Rattle.run_contract.specs.Calls as runs;
     ghost use Rattle.run_contract.specs.Runs.{is_of_client};
     ghost use Rattle.connection_plan.specs.Connections.{came_at, ends_at};
-    ghost use Rattle.connection_plan.specs.Serving.{service_of};
+    ghost use Rattle.connection_strand.specs.Views.{view_of, service};
     ghost use Rattle.connection_strand.specs.Costs.{unit, Pays, Falls};
-    ghost use Rattle.connection_strand.specs.Standing.{Ends, Hears, IsWithin, IsFreeAt};
+    ghost use Rattle.connection_strand.specs.Standing.{Ends, Hears, IsWithin, IsFreeAt, IsUnasked};
     ghost use Rattle.connection_strand.specs.Turns.{IsAnswered};
     ghost use Rattle.connection_plan.specs.Turns.{heard_by, settle};
     ghost use Rattle.connection_strand.specs.Shown.{heard_at, seen_of_event, seen_of_taking, sock_seen, MayShow, Shows, MayTellRun, TellsRun, MayGoOn, GoesOn};
@@ -41,10 +41,9 @@ impl<R: ServiceContract> Connection<R> {
         out: LineOut,
     ) -> Result<(), AllocError>
         requires answered { IsAnswered out self.old.client.line.came.at }
-        requires within { IsFreeAt (R.plan site.now) (R.holds site.now) (R.stands site.now) self.old turn.old }
-        ensures { IfOk result (λ done. Hears (R.plan site.now) (R.holds site.now) (R.stands site.now) false
-            (λ rest. Look (λ b s. let service = service_of (R.plan site.now) (R.serving site.now) in
-            heard_by service now.0 anew (settle service now.0) s.client.came s.client.ended out)) self.old turn.old self.new turn.new) }
+        requires within { let view = view_of (R.meaning site.now) (R.serving site.now) in IsFreeAt view self.old turn.old }
+        ensures { let view = view_of (R.meaning site.now) (R.serving site.now) in IfOk result (λ done. Hears view false
+            (λ rest. Look (λ b s. heard_by (service view) now.0 anew (settle (service view) now.0) s.client.came s.client.ended out)) self.old turn.old self.new turn.new) }
     {
         let goes_on = self.heard(turn, alloc, site, now, anew, out)?;
         if !goes_on {
@@ -63,9 +62,9 @@ impl<R: ServiceContract> Connection<R> {
         out: LineOut,
     ) -> Result<(), AllocError>
         requires answered { IsAnswered out self.old.client.line.came.at }
-        requires within { IsWithin (R.plan site.now) (R.holds site.now) (R.stands site.now) self.old turn.old }
-        ensures { IfOk result (λ done. Ends (R.plan site.now) (R.holds site.now) (R.stands site.now)
-            (Look (λ b s. heard_at (service_of (R.plan site.now) (R.serving site.now)) now.0 s.client.stage out s.client.came s.client.ended))
+        requires within { let view = view_of (R.meaning site.now) (R.serving site.now) in IsWithin view self.old turn.old }
+        ensures { let view = view_of (R.meaning site.now) (R.serving site.now) in IfOk result (λ done. Ends view
+            (Look (λ b s. heard_at (service view) now.0 s.client.stage out s.client.came s.client.ended))
             self.old turn.old self.new turn.new) }
     {
         match self.client.stage {
@@ -94,9 +93,9 @@ impl<R: ServiceContract> Connection<R> {
         now: Ms,
         bytes: &[u8],
     ) -> Result<(), AllocError>
-        requires { IsWithin (R.plan site.now) (R.holds site.now) (R.stands site.now) self.old turn.old }
-        ensures { IfOk result (λ done. Ends (R.plan site.now) (R.holds site.now) (R.stands site.now)
-            (Look (λ b s. came_at (service_of (R.plan site.now) (R.serving site.now)) now.0 s.client.stage (fed s.client.came bytes.now) s))
+        requires { let view = view_of (R.meaning site.now) (R.serving site.now) in IsWithin view self.old turn.old }
+        ensures { let view = view_of (R.meaning site.now) (R.serving site.now) in IfOk result (λ done. Ends view
+            (Look (λ b s. came_at (service view) now.0 s.client.stage (fed s.client.came bytes.now) s))
             self.old turn.old self.new turn.new) }
     {
         match self.client.line.fed(bytes) {
@@ -114,15 +113,15 @@ impl<R: ServiceContract> Connection<R> {
         now: Ms,
         bytes: Bytes,
     ) -> Result<(), AllocError>
-        requires { IsWithin (R.plan site.now) (R.holds site.now) (R.stands site.now) self.old turn.old }
-        ensures { IfOk result (λ done. Ends (R.plan site.now) (R.holds site.now) (R.stands site.now)
-            (Look (λ b s. came_at (service_of (R.plan site.now) (R.serving site.now)) now.0 s.client.stage (fed s.client.came bytes) s))
+        requires { let view = view_of (R.meaning site.now) (R.serving site.now) in IsWithin view self.old turn.old }
+        ensures { let view = view_of (R.meaning site.now) (R.serving site.now) in IfOk result (λ done. Ends view
+            (Look (λ b s. came_at (service view) now.0 s.client.stage (fed s.client.came bytes) s))
             self.old turn.old self.new turn.new) }
     {
         self.came(turn, alloc, site, now, &bytes)
     }
 
-    /// The client sends no more: what it asked for is still answered.
+    /// The client sends no more: a run that goes on is told, and what the client asked for is still answered.
     fn hear_end(
         &mut self,
         turn: &mut Turn<R::Job>,
@@ -130,15 +129,20 @@ impl<R: ServiceContract> Connection<R> {
         site: &R::Site,
         now: Ms,
     ) -> Result<(), AllocError>
-        requires { IsWithin (R.plan site.now) (R.holds site.now) (R.stands site.now) self.old turn.old }
-        ensures { IfOk result (λ done. Ends (R.plan site.now) (R.holds site.now) (R.stands site.now)
-            (Look (λ b s. ends_at (service_of (R.plan site.now) (R.serving site.now)) now.0 s.client.stage))
+        requires within { let view = view_of (R.meaning site.now) (R.serving site.now) in IsWithin view self.old turn.old }
+        requires unasked { IsUnasked self.old }
+        ensures { let view = view_of (R.meaning site.now) (R.serving site.now) in IfOk result (λ done. Ends view
+            (Look (λ b s. ends_at (service view) now.0 s.client.stage s))
             self.old turn.old self.new turn.new) }
     {
         match self.client.stage {
             Stage::Busy => {
                 self.client.has_ended = true;
-                self.settle_all(turn, alloc, site, now)
+                if self.waits.client {
+                    self.go_on(turn, alloc, site, now, RunSeen::ClientEnded)
+                } else {
+                    self.settle_all(turn, alloc, site, now)
+                }
             }
             Stage::Flush => {
                 self.client.has_ended = true;
@@ -155,7 +159,7 @@ impl<R: ServiceContract> Connection<R> {
         site: &R::Site,
         _now: Ms,
     ) -> Result<(), AllocError>
-        ensures { IfOk result (λ done. Shows (service_of (R.plan site.now) (R.serving site.now)) (R.holds site.now) (R.stands site.now) _now.0
+        ensures { let view = view_of (R.meaning site.now) (R.serving site.now) in IfOk result (λ done. Shows view _now.0
             (seens.Ready place.Client) self.old turn.old self.new turn.new) }
     {
         self.client.is_put_off = false;
@@ -172,9 +176,9 @@ impl<R: ServiceContract> Connection<R> {
         now: Ms,
         count: usize,
     ) -> Result<(), AllocError>
-        requires { MayShow (service_of (R.plan site.now) (R.serving site.now)) (R.holds site.now) (R.stands site.now) now.0
+        requires { let view = view_of (R.meaning site.now) (R.serving site.now) in MayShow view now.0
             (seens.Took place.Client count) self.old turn.old }
-        ensures moves { IfOk result (λ done. Shows (service_of (R.plan site.now) (R.serving site.now)) (R.holds site.now) (R.stands site.now) now.0
+        ensures moves { let view = view_of (R.meaning site.now) (R.serving site.now) in IfOk result (λ done. Shows view now.0
             (seens.Took place.Client count) self.old turn.old self.new turn.new) }
         ensures falls { IfOk result (λ done. Falls R.left R.bound self.old turn.old self.new turn.new) }
     {
@@ -190,9 +194,9 @@ impl<R: ServiceContract> Connection<R> {
         site: &R::Site,
         now: Ms,
     ) -> Result<(), AllocError>
-        requires { MayShow (service_of (R.plan site.now) (R.serving site.now)) (R.holds site.now) (R.stands site.now) now.0
+        requires { let view = view_of (R.meaning site.now) (R.serving site.now) in MayShow view now.0
             (seens.Later place.Client) self.old turn.old }
-        ensures moves { IfOk result (λ done. Shows (service_of (R.plan site.now) (R.serving site.now)) (R.holds site.now) (R.stands site.now) now.0
+        ensures moves { let view = view_of (R.meaning site.now) (R.serving site.now) in IfOk result (λ done. Shows view now.0
             (seens.Later place.Client) self.old turn.old self.new turn.new) }
         ensures falls { IfOk result (λ done. Falls R.left R.bound self.old turn.old self.new turn.new) }
     {
@@ -209,8 +213,8 @@ impl<R: ServiceContract> Connection<R> {
         now: Ms,
         seen: RunSeen,
     ) -> Result<bool, AllocError>
-        requires { MayTellRun (service_of (R.plan site.now) (R.serving site.now)) (R.holds site.now) (R.stands site.now) now.0 seen self.old turn.old }
-        ensures moves { IfOk result (λ on. TellsRun (service_of (R.plan site.now) (R.serving site.now)) (R.holds site.now) (R.stands site.now) now.0 seen on
+        requires { let view = view_of (R.meaning site.now) (R.serving site.now) in MayTellRun view now.0 seen self.old turn.old }
+        ensures moves { let view = view_of (R.meaning site.now) (R.serving site.now) in IfOk result (λ on. TellsRun view now.0 seen on
             self.old turn.old self.new turn.new) }
         ensures costs { is_of_client seen ≡ false → runs.is_own_turn seen ≡ true →
             IfOk result (λ on. Pays R.left R.bound unit self.old turn.old self.new turn.new) }
@@ -230,8 +234,8 @@ impl<R: ServiceContract> Connection<R> {
         now: Ms,
         seen: RunSeen,
     ) -> Result<(), AllocError>
-        requires { MayGoOn (service_of (R.plan site.now) (R.serving site.now)) (R.holds site.now) (R.stands site.now) now.0 seen self.old turn.old }
-        ensures moves { IfOk result (λ done. GoesOn (service_of (R.plan site.now) (R.serving site.now)) (R.holds site.now) (R.stands site.now) now.0 seen
+        requires { let view = view_of (R.meaning site.now) (R.serving site.now) in MayGoOn view now.0 seen self.old turn.old }
+        ensures moves { let view = view_of (R.meaning site.now) (R.serving site.now) in IfOk result (λ done. GoesOn view now.0 seen
             self.old turn.old self.new turn.new) }
         ensures falls { is_of_client seen ≡ false → runs.is_own_turn seen ≡ true →
             IfOk result (λ done. Falls R.left R.bound self.old turn.old self.new turn.new) }
@@ -253,9 +257,9 @@ impl<R: ServiceContract> Connection<R> {
         socket: u32,
         seen: SockSeen,
     ) -> Result<(), AllocError>
-        requires { MayShow (service_of (R.plan site.now) (R.serving site.now)) (R.holds site.now) (R.stands site.now) now.0
+        requires { let view = view_of (R.meaning site.now) (R.serving site.now) in MayShow view now.0
             (sock_seen socket seen) self.old turn.old }
-        ensures moves { IfOk result (λ done. Shows (service_of (R.plan site.now) (R.serving site.now)) (R.holds site.now) (R.stands site.now) now.0
+        ensures moves { let view = view_of (R.meaning site.now) (R.serving site.now) in IfOk result (λ done. Shows view now.0
             (sock_seen socket seen) self.old turn.old self.new turn.new) }
         ensures falls { runs.is_own_at seen ≡ true → IfOk result (λ done. Falls R.left R.bound self.old turn.old self.new turn.new) }
     {
@@ -283,9 +287,9 @@ impl<R: ServiceContract> Connection<R> {
         now: Ms,
         number: u32,
     ) -> Result<(), AllocError>
-        requires { MayShow (service_of (R.plan site.now) (R.serving site.now)) (R.holds site.now) (R.stands site.now) now.0
+        requires { let view = view_of (R.meaning site.now) (R.serving site.now) in MayShow view now.0
             (seens.Due number) self.old turn.old }
-        ensures moves { IfOk result (λ done. Shows (service_of (R.plan site.now) (R.serving site.now)) (R.holds site.now) (R.stands site.now) now.0
+        ensures moves { let view = view_of (R.meaning site.now) (R.serving site.now) in IfOk result (λ done. Shows view now.0
             (seens.Due number) self.old turn.old self.new turn.new) }
         ensures falls { IfOk result (λ done. Falls R.left R.bound self.old turn.old self.new turn.new) }
     {
@@ -310,8 +314,8 @@ impl<R: ServiceContract> Connection<R> {
         now: Ms,
         seen: Seen,
     ) -> Result<(), AllocError>
-        requires { MayShow (service_of (R.plan site.now) (R.serving site.now)) (R.holds site.now) (R.stands site.now) now.0 seen self.old turn.old }
-        ensures moves { IfOk result (λ done. Shows (service_of (R.plan site.now) (R.serving site.now)) (R.holds site.now) (R.stands site.now) now.0
+        requires { let view = view_of (R.meaning site.now) (R.serving site.now) in MayShow view now.0 seen self.old turn.old }
+        ensures moves { let view = view_of (R.meaning site.now) (R.serving site.now) in IfOk result (λ done. Shows view now.0
             seen self.old turn.old self.new turn.new) }
         ensures falls { is_own_turn seen ≡ true → IfOk result (λ done. Falls R.left R.bound self.old turn.old self.new turn.new) }
     {
@@ -332,9 +336,9 @@ impl<R: ServiceContract> Connection<R> {
         now: Ms,
         taking: Taking,
     ) -> Result<(), AllocError>
-        requires { MayShow (service_of (R.plan site.now) (R.serving site.now)) (R.holds site.now) (R.stands site.now) now.0
+        requires { let view = view_of (R.meaning site.now) (R.serving site.now) in MayShow view now.0
             (seen_of_taking taking) self.old turn.old }
-        ensures moves { IfOk result (λ done. Shows (service_of (R.plan site.now) (R.serving site.now)) (R.holds site.now) (R.stands site.now) now.0
+        ensures moves { let view = view_of (R.meaning site.now) (R.serving site.now) in IfOk result (λ done. Shows view now.0
             (seen_of_taking taking) self.old turn.old self.new turn.new) }
         ensures falls { is_own_turn (seen_of_taking taking) ≡ true → IfOk result (λ done. Falls R.left R.bound self.old turn.old self.new turn.new) }
     {
@@ -355,9 +359,9 @@ impl<R: ServiceContract> Connection<R> {
         now: Ms,
         event: Event,
     ) -> Result<(), AllocError>
-        requires { MayShow (service_of (R.plan site.now) (R.serving site.now)) (R.holds site.now) (R.stands site.now) now.0
+        requires { let view = view_of (R.meaning site.now) (R.serving site.now) in MayShow view now.0
             (seen_of_event event) self.old turn.old }
-        ensures moves { IfOk result (λ done. Shows (service_of (R.plan site.now) (R.serving site.now)) (R.holds site.now) (R.stands site.now) now.0
+        ensures moves { let view = view_of (R.meaning site.now) (R.serving site.now) in IfOk result (λ done. Shows view now.0
             (seen_of_event event) self.old turn.old self.new turn.new) }
         ensures falls { is_own_turn (seen_of_event event) ≡ true → IfOk result (λ done. Falls R.left R.bound self.old turn.old self.new turn.new) }
     {

@@ -48,12 +48,14 @@ impl<R: ServiceContract> Connection<R> {
     ghost use Rattle.strand_plans.specs.Plans.{stepped, unborn_state};
     ghost use Rattle.run_contract.specs.Runs.{waits_at_first};
     ghost use Rattle.connection_plan.specs.Connections.{connection_plan, connection_behavior};
-    ghost use Rattle.connection_plan.specs.Serving.{service_of};
+    ghost use Rattle.connection_strand.specs.Views.{view_of, service};
     ghost use Rattle.connection_strand.specs.Standing.{Went};
     ghost use Rattle.connection_strand.specs.Following.{IsNew, Follows, is_client};
     ghost use Rattle.connection_strand.specs.Kept.{kept, fresh, waits_of, wants_offer};
     ghost use Rattle.connection_strand.specs.Acts.{sockets_with, count_with};
+    ghost use Rattle.connection_strand.specs.Costs.{Falls};
     ghost use Rattle.connection_strand.specs.Shown.{HasPieceAt, offered_as};
+    ghost use Rattle.connection_strand.specs.Turns.{MayTakeAnswer, TakesAnswer};
 
     /// A connection that begins, with or without a client; takes no memory.
     fn new(alloc: Global, site: &R::Site, is_open: bool) -> Connection<R>
@@ -88,8 +90,8 @@ impl<R: ServiceContract> Connection<R> {
         requires connection { IsNew (R.serving site.now).default_times (is_client start) self.old }
         requires acts { turn.old.acts.items ≡ [] }
         requires offered { turn.old.is_offered ≡ false }
-        ensures { let plan = connection_plan (service_of (R.plan site.now) (R.serving site.now)) in IfOk result (λ on.
-            Went (R.plan site.now) (R.holds site.now) (R.stands site.now) on
+        ensures { let view = view_of (R.meaning site.now) (R.serving site.now) in let plan = connection_plan (service view) in IfOk result (λ on.
+            Went view on
             (stepped plan now.0 (Did (Began now.0 start)) (unborn_state plan)) self.new turn.new Done) }
     {
         match start {
@@ -100,7 +102,7 @@ impl<R: ServiceContract> Connection<R> {
             Start::Job(_, premature, job) => {
                 let begun = R::begin_job(alloc, site, now, premature, job);
                 self.client.stage = Stage::Busy;
-                self.adopt_run(turn, site, now, begun)
+                self.take_run(turn, site, now, begun)
             }
         }
     }
@@ -114,9 +116,9 @@ impl<R: ServiceContract> Connection<R> {
         start: Start<R::Job>,
     ) -> Result<Acts<R::Job>, AllocError>
         requires { IsNew (R.serving site.now).default_times (is_client start) self.old }
-        ensures { let service = service_of (R.plan site.now) (R.serving site.now) in IfOk result (λ acts.
-            Follows service (R.stands site.now) self.new (Did (Began now.0 start) ∷ [])
-            × (acts.items ≡ (connection_behavior service).acts (Did (Began now.0 start) ∷ []))) }
+        ensures { let view = view_of (R.meaning site.now) (R.serving site.now) in IfOk result (λ acts.
+            Follows view self.new (Did (Began now.0 start) ∷ [])
+            × (acts.items ≡ (connection_behavior (service view)).acts (Did (Began now.0 start) ∷ []))) }
     {
         let mut turn = Turn {
             acts: VecDeque::new(alloc),
@@ -128,7 +130,7 @@ impl<R: ServiceContract> Connection<R> {
 
     /// The piece that is offered next at the socket.
     pub(crate) fn piece_at(&self, site: &R::Site, socket: u32) -> &[u8]
-        ensures { HasPieceAt (R.plan site.now) (R.holds site.now) (R.stands site.now) self.now socket result.now }
+        ensures { let view = view_of (R.meaning site.now) (R.serving site.now) in HasPieceAt view self.now socket result.now }
     {
         match (&self.run, self.client.stage) {
             (Some(run), Stage::Busy) => run.queued(site, socket),
@@ -170,6 +172,30 @@ impl<R: ServiceContract> Connection<R> {
         }
     }
 
+    /// Takes the turn that begins with the answer to its question.
+    fn take_answer(
+        &mut self,
+        turn: &mut Turn<R::Job>,
+        alloc: Global,
+        site: &R::Site,
+        now: Ms,
+        answer: Answer,
+    ) -> Result<(), AllocError>
+        requires { let view = view_of (R.meaning site.now) (R.serving site.now) in MayTakeAnswer view now.0
+            answer self.old turn.old }
+        ensures moves { let view = view_of (R.meaning site.now) (R.serving site.now) in IfOk result (λ done. TakesAnswer view now.0
+            answer self.old turn.old self.new turn.new) }
+        ensures falls { IfOk result (λ done. Falls R.left R.bound self.old turn.old self.new turn.new) }
+    {
+        self.take_in(&answer)?;
+        self.keeping = None;
+        let goes_on = self.answered(turn, alloc, site, now, answer)?;
+        if !goes_on {
+            return Ok(());
+        }
+        self.settle_all(turn, alloc, site, now)
+    }
+
     /// Whether an offer of the client is queued or goes on as the turn begins.
     fn is_offered(&self, seen: &Seen) -> bool
         ensures { result ≡ offered_as seen.now (kept self.now.client) }
@@ -197,10 +223,10 @@ impl<R: ServiceContract> StrandContract for Connection<R> {
     ghost use Rattle.strand_plans.proofs.Grows.{grows};
     ghost use Rattle.strand_plans.proofs.PlanLaws.{silent, asks-fit, hangs-up-open, leaves-nothing-open, keeps, wakes-quietly, ends-at-stop};
     ghost use Rattle.strand_plans.proofs.Executions as executions;
-    ghost use Rattle.connection_plan.specs.Conditions.{Knows, MayAsk};
+    ghost use Rattle.connection_plan.specs.Conditions.{MayAsk};
     ghost use Rattle.connection_plan.specs.Connections.{connection_plan, connection_behavior};
     ghost use Rattle.connection_plan.proofs.Meets.{meets};
-    ghost use Rattle.connection_plan.specs.Serving.{service_of};
+    ghost use Rattle.connection_strand.specs.Views.{view_of, service, Known};
     ghost use Rattle.connection_strand.specs.Costs.{left_of};
     ghost use Rattle.connection_strand.specs.Following.{Follows};
     ghost use Rattle.connection_strand.specs.FollowingLaws.{still-follows};
@@ -209,40 +235,40 @@ impl<R: ServiceContract> StrandContract for Connection<R> {
 
     type Job = R::Job;
 
-    ghost meaning = { λ site. record {
-      behavior = connection_behavior (service_of (R.plan site) (R.serving site));
-      stands = Follows (service_of (R.plan site) (R.serving site)) (R.stands site);
+    ghost meaning = { λ site. let view = view_of (R.meaning site) (R.serving site) in record {
+      behavior = connection_behavior (service view);
+      stands = Follows view;
     } };
 
     ghost left = { left_of R.left R.bound };
 
-    ghost still = { λ site strand a es. still-follows (service_of (R.plan site) (R.serving site)) (R.stands site) (R.apart site) strand a es };
+    ghost still = { λ site strand a es. still-follows (view_of (R.meaning site) (R.serving site)) (R.apart site) strand a es };
 
-    ghost quiet = { λ site. executions.quiet (connection_plan (service_of (R.plan site) (R.serving site))) };
+    ghost quiet = { λ site. executions.quiet (connection_plan (service (view_of (R.meaning site) (R.serving site)))) };
 
-    ghost silent = { λ site. silent (connection_plan (service_of (R.plan site) (R.serving site))) };
+    ghost silent = { λ site. silent (connection_plan (service (view_of (R.meaning site) (R.serving site)))) };
 
-    ghost grows = { λ site. grows (connection_plan (service_of (R.plan site) (R.serving site))) };
+    ghost grows = { λ site. grows (connection_plan (service (view_of (R.meaning site) (R.serving site)))) };
 
-    ghost asks_last = { λ site. asks-last (connection_plan (service_of (R.plan site) (R.serving site))) };
+    ghost asks_last = { λ site. asks-last (connection_plan (service (view_of (R.meaning site) (R.serving site)))) };
 
-    ghost asks_fit = { λ site. let service = service_of (R.plan site) (R.serving site) in
-        asks-fit (connection_plan service) (Knows (R.holds site)) (MayAsk service) (meets service (R.holds site) (R.meets site)) };
+    ghost asks_fit = { λ site. let view = view_of (R.meaning site) (R.serving site) in
+        asks-fit (connection_plan (service view)) (Known view) (MayAsk (service view)) (meets (service view) view.meaning.holds (R.meets site)) };
 
-    ghost hangs_up_open = { λ site. let service = service_of (R.plan site) (R.serving site) in
-        hangs-up-open (connection_plan service) (Knows (R.holds site)) (MayAsk service) (meets service (R.holds site) (R.meets site)) };
+    ghost hangs_up_open = { λ site. let view = view_of (R.meaning site) (R.serving site) in
+        hangs-up-open (connection_plan (service view)) (Known view) (MayAsk (service view)) (meets (service view) view.meaning.holds (R.meets site)) };
 
-    ghost leaves_nothing_open = { λ site. let service = service_of (R.plan site) (R.serving site) in
-        leaves-nothing-open (connection_plan service) (Knows (R.holds site)) (MayAsk service) (meets service (R.holds site) (R.meets site)) };
+    ghost leaves_nothing_open = { λ site. let view = view_of (R.meaning site) (R.serving site) in
+        leaves-nothing-open (connection_plan (service view)) (Known view) (MayAsk (service view)) (meets (service view) view.meaning.holds (R.meets site)) };
 
-    ghost keeps = { λ site. let service = service_of (R.plan site) (R.serving site) in
-        keeps (connection_plan service) (Knows (R.holds site)) (MayAsk service) (meets service (R.holds site) (R.meets site)) };
+    ghost keeps = { λ site. let view = view_of (R.meaning site) (R.serving site) in
+        keeps (connection_plan (service view)) (Known view) (MayAsk (service view)) (meets (service view) view.meaning.holds (R.meets site)) };
 
-    ghost wakes_quietly = { λ site. let service = service_of (R.plan site) (R.serving site) in
-        wakes-quietly (connection_plan service) (Knows (R.holds site)) (MayAsk service) (meets service (R.holds site) (R.meets site)) };
+    ghost wakes_quietly = { λ site. let view = view_of (R.meaning site) (R.serving site) in
+        wakes-quietly (connection_plan (service view)) (Known view) (MayAsk (service view)) (meets (service view) view.meaning.holds (R.meets site)) };
 
-    ghost ends_at_stop = { λ site. let service = service_of (R.plan site) (R.serving site) in
-        ends-at-stop (connection_plan service) (Knows (R.holds site)) (MayAsk service) (meets service (R.holds site) (R.meets site)) };
+    ghost ends_at_stop = { λ site. let view = view_of (R.meaning site) (R.serving site) in
+        ends-at-stop (connection_plan (service view)) (Known view) (MayAsk (service view)) (meets (service view) view.meaning.holds (R.meets site)) };
 
     fn connections(site: &R::Site) -> u32 {
         <R as ServiceContract>::connections(site)
@@ -266,9 +292,9 @@ impl<R: ServiceContract> StrandContract for Connection<R> {
         now: Ms,
         start: Start<R::Job>,
     ) -> Result<(Self, Acts<R::Job>), AllocError>
-        ensures { let service = service_of (R.plan site.now) (R.serving site.now) in IfOk result (λ r.
-            Follows service (R.stands site.now) r.0 (Did (Began now.0 start) ∷ [])
-            × (r.1.items ≡ (connection_behavior service).acts (Did (Began now.0 start) ∷ []))) }
+        ensures { let view = view_of (R.meaning site.now) (R.serving site.now) in IfOk result (λ r.
+            Follows view r.0 (Did (Began now.0 start) ∷ [])
+            × (r.1.items ≡ (connection_behavior (service view)).acts (Did (Began now.0 start) ∷ []))) }
     {
         let mut connection = Connection::new(alloc, site, is_client(&start));
         let acts = connection.start(alloc, site, now, start);
@@ -299,18 +325,11 @@ impl<R: ServiceContract> StrandContract for Connection<R> {
         now: Ms,
         answer: Answer,
     ) -> Result<Acts<R::Job>, AllocError> {
-        let is_offered = self.is_still_offered();
-        self.take_in(&answer)?;
-        self.keeping = None;
         let mut turn = Turn {
             acts: VecDeque::new(alloc),
-            is_offered,
+            is_offered: self.is_still_offered(),
         };
-        let goes_on = self.answered(&mut turn, alloc, site, now, answer)?;
-        if !goes_on {
-            return Ok(turn.acts);
-        }
-        self.settle_all(&mut turn, alloc, site, now)?;
+        self.take_answer(&mut turn, alloc, site, now, answer)?;
         Ok(turn.acts)
     }
 

@@ -1,14 +1,14 @@
 //! Turns of the run, and what a connection tells it.
 
-ghost use Rattle.std.specs.Prelude.{◌≡◌, ◌++◌, [], option_to_list, IfSome, None, false};
-ghost use Rattle.connection_strand.specs.Acts.{is_question, kept_socket, without_all, begins_with_deed, head, done_of, question_in};
+ghost use Rattle.std.specs.Prelude.{◌≡◌, ◌++◌, [], None};
+ghost use Rattle.connection_strand.specs.Acts.{is_question, kept_with, sockets_after, without_all};
 
 use crate::state::{Connection, Turn, put};
 use connection_plan::ServiceContract;
 use resty_base::Ms;
-use run_contract::{RunSeen, RunTurn};
+use run_contract::{RunAct, RunSeen, RunTurn};
 use std::alloc::{AllocError, Global};
-use strand_contract::{Act, Acts, Answer, Place};
+use strand_contract::{Act, Answer, Place};
 
 /// Whether the act is a question, which ends a turn.
 fn is_question<J>(act: &Act<J>) -> bool
@@ -31,40 +31,6 @@ fn is_question<J>(act: &Act<J>) -> bool
     }
 }
 
-/// Whether an act comes next that isn't a question.
-fn begins_with_deed<J>(acts: &Acts<J>) -> bool
-    ensures { result ≡ begins_with_deed acts.now.items }
-{
-    match acts.front() {
-        Some(act) => !is_question(act),
-        None => false,
-    }
-}
-
-/// Takes the next act out of these, unless it is a question.
-fn next_deed<J: Drop>(acts: &mut Acts<J>) -> Option<Act<J>>
-    ensures items { acts.old.items ≡ option_to_list result ++ acts.new.items }
-    ensures deed { IfSome result (λ act. is_question act ≡ false) }
-    ensures question { result ≡ None → head acts.new.items ≡ question_in acts.new.items }
-    ensures done { result ≡ None → done_of acts.new.items ≡ [] }
-{
-    if begins_with_deed(acts) {
-        acts.pop_front()
-    } else {
-        None
-    }
-}
-
-/// The socket that the act gives to the pool.
-fn kept_socket<J>(act: &Act<J>) -> Option<u32>
-    ensures { result ≡ kept_socket act.now }
-{
-    match act {
-        Act::Keep(number, _, _, _) => Some(*number),
-        _ => None,
-    }
-}
-
 /// Takes the number out of these.
 pub(crate) fn take_out(numbers: &mut Vec<u32>, number: u32)
     ensures { numbers.new.items ≡ without_all number numbers.old.items }
@@ -73,131 +39,120 @@ pub(crate) fn take_out(numbers: &mut Vec<u32>, number: u32)
 }
 
 impl<R: ServiceContract> Connection<R> {
-    ghost use Rattle.std.specs.Prelude.{◌∷◌, ◌+◌, ◌*◌, length, true, IfOk, Ok, Some};
+    ghost use Rattle.std.specs.Prelude.{◌∷◌, ◌+◌, ◌*◌, length, not, true, IfOk, Ok, Some};
     ghost use Rattle.run_contract.specs.Calls as runs;
+    ghost use Rattle.run_contract.specs.Calls.{size_of};
     ghost use Rattle.run_contract.specs.declared.turns.RunTurn.{RunTurn};
     ghost use Rattle.strand_plans.specs.Moves.{Performed, Move};
     ghost use Rattle.connection_plan.specs.Services.{Both};
-    ghost use Rattle.connection_plan.specs.Serving.{service_of};
+    ghost use Rattle.connection_strand.specs.Views.{view_of, service};
     ghost use Rattle.connection_strand.specs.Costs.{unit, Spends, Pays};
     ghost use Rattle.connection_strand.specs.Standing.{Went};
-    ghost use Rattle.connection_strand.specs.Turns.{Told, Took, Answered, Asks};
-    ghost use Rattle.connection_strand.specs.Acts.{sockets_after};
+    ghost use Rattle.connection_strand.specs.Turns.{Told, Answered, TakesTurn, TakesPart};
 
-    /// Makes an act of the run's turn its own.
-    fn adopt_act(&mut self, turn: &mut Turn<R::Job>, act: Act<R::Job>) -> Result<(), AllocError>
-        ensures acts { IfOk result (λ done. turn.new.acts.items ≡ turn.old.acts.items ++ act ∷ []) }
-        ensures offered { turn.new.is_offered ≡ turn.old.is_offered }
-        ensures sockets { self.new.sockets.items ≡ sockets_after (act ∷ []) self.old.sockets.items }
-        ensures kept { self.new ≡ record self.old { sockets = self.new.sockets } }
-    {
-        if let Act::HangUp(Place::Sock(number)) = &act {
-            take_out(&mut self.sockets, *number);
-        }
-        put(&mut turn.acts, act)
-    }
-
-    /// Makes the acts of the run's turn its own, but for the question at their end, which is left.
-    fn adopt_acts(
+    /// Makes an act of the run its own. It reports whether the connection's turn goes on: a question ends it.
+    fn take_act(
         &mut self,
         turn: &mut Turn<R::Job>,
-        acts: &mut Acts<R::Job>,
-    ) -> Result<(), AllocError>
-        ensures question { IfOk result (λ done. head acts.new.items ≡ question_in acts.old.items) }
-        ensures acts { IfOk result (λ done. turn.new.acts.items ≡ turn.old.acts.items ++ done_of acts.old.items) }
+        act: Act<R::Job>,
+    ) -> Result<bool, AllocError>
+        ensures goes_on { IfOk result (λ on. on ≡ not (is_question act)) }
+        ensures acts { IfOk result (λ on. turn.new.acts.items ≡ turn.old.acts.items ++ act ∷ []) }
         ensures offered { turn.new.is_offered ≡ turn.old.is_offered }
-        ensures sockets { IfOk result (λ done. self.new.sockets.items ≡ sockets_after (done_of acts.old.items) self.old.sockets.items) }
-        ensures kept { self.new ≡ record self.old { sockets = self.new.sockets } }
+        ensures sockets { self.new.sockets.items ≡ sockets_after act self.old.sockets.items }
+        ensures keeping { self.new.keeping ≡ kept_with act self.old.keeping }
+        ensures kept { self.new ≡ record self.old { sockets = self.new.sockets; keeping = self.new.keeping } }
     {
-        while let Some(act) = next_deed(acts) {
-            self.adopt_act(turn, act)?;
+        let goes_on = !is_question(&act);
+        match &act {
+            Act::HangUp(Place::Sock(number)) => take_out(&mut self.sockets, *number),
+            Act::Keep(number, _, _, _) => self.keeping = Some(*number),
+            _ => {}
         }
-        Ok(())
-    }
-
-    /// Asks the question that is left of the run's turn. It reports whether there is none.
-    fn ask(&mut self, turn: &mut Turn<R::Job>, acts: &mut Acts<R::Job>) -> Result<bool, AllocError>
-        ensures { IfOk result (λ on. Asks on (head acts.old.items) self.old turn.old self.new turn.new) }
-    {
-        match acts.pop_front() {
-            Some(question) => {
-                self.keeping = kept_socket(&question);
-                match put(&mut turn.acts, question) {
-                    Ok(()) => Ok(false),
-                    Err(error) => Err(error),
-                }
-            }
-            None => Ok(true),
+        match put(&mut turn.acts, act) {
+            Ok(()) => Ok(goes_on),
+            Err(error) => Err(error),
         }
     }
 
-    /// Takes the run's turn: its acts, and what it says. It reports whether the connection's turn goes on: a question ends it.
-    fn adopt_turn(
+    /// Takes a part of the run's turn: an act, or a word, which is heard. It reports whether the connection's turn goes on.
+    fn take_part(
+        &mut self,
+        turn: &mut Turn<R::Job>,
+        site: &R::Site,
+        now: Ms,
+        part: RunAct<R::Job>,
+    ) -> Result<bool, AllocError>
+        ensures moves { let view = view_of (R.meaning site.now) (R.serving site.now) in IfOk result (λ on.
+            TakesPart view now.0 on part self.old turn.old self.new turn.new) }
+        ensures costs { IfOk result (λ on. Spends R.left R.bound unit self.old turn.old self.new turn.new) }
+    {
+        match part {
+            RunAct::Act(act) => self.take_act(turn, act),
+            RunAct::Say(word) => match self.hear_word(turn, site, now, &word) {
+                Ok(()) => Ok(true),
+                Err(error) => Err(error),
+            },
+        }
+    }
+
+    /// Takes the run's turn, part by part. It reports whether the connection's turn goes on: a question to the outside ends it.
+    fn take_turn(
         &mut self,
         turn: &mut Turn<R::Job>,
         site: &R::Site,
         now: Ms,
         next: &mut RunTurn<R::Job>,
     ) -> Result<bool, AllocError>
-        ensures moves { IfOk result (λ on. (did : Performed R.Job (Both R.Inner)) (m : Move R.Job (Both R.Inner))
-            → Took (service_of (R.plan site.now) (R.serving site.now)) (R.holds site.now) (R.stands site.now) now.0 next.old did self.old turn.old m
-            → Went (R.plan site.now) (R.holds site.now) (R.stands site.now) on did self.new turn.new m) }
-        ensures costs { IfOk result (λ done. Spends R.left R.bound (unit * (length next.old.acts.items + length next.old.said.items))
-            self.old turn.old self.new turn.new) }
+        ensures moves { let view = view_of (R.meaning site.now) (R.serving site.now) in IfOk result (λ on.
+            TakesTurn view now.0 on next.old self.old turn.old self.new turn.new) }
+        ensures costs { IfOk result (λ on. Spends R.left R.bound (unit * size_of next.old) self.old turn.old self.new turn.new) }
     {
-        self.waits = self.waits.said(&next.said);
-        match self.adopt_acts(turn, &mut next.acts) {
-            Ok(()) => match self.says(turn, site, now, &next.said) {
-                Ok(()) => self.ask(turn, &mut next.acts),
-                Err(error) => Err(error),
-            },
-            Err(error) => Err(error),
+        self.waits.asks = next.asks;
+        let mut goes_on = true;
+        while let Some(part) = next.does.pop_front() {
+            goes_on = self.take_part(turn, site, now, part)?;
         }
+        Ok(goes_on)
     }
 
     /// Takes the turn that the run took, where it had the memory for it.
-    fn adopt_next(
+    fn take_next(
         &mut self,
         turn: &mut Turn<R::Job>,
         site: &R::Site,
         now: Ms,
         next: Result<RunTurn<R::Job>, AllocError>,
     ) -> Result<bool, AllocError>
-        ensures { IfOk result (λ on. (taken : RunTurn R.Job) × (next ≡ Ok taken)
-            × ((did : Performed R.Job (Both R.Inner)) (m : Move R.Job (Both R.Inner))
-            → Took (service_of (R.plan site.now) (R.serving site.now)) (R.holds site.now) (R.stands site.now) now.0 taken did self.old turn.old m
-            → Went (R.plan site.now) (R.holds site.now) (R.stands site.now) on did self.new turn.new m)
-            × Spends R.left R.bound (unit * (length taken.acts.items + length taken.said.items)) self.old turn.old self.new turn.new) }
+        ensures { let view = view_of (R.meaning site.now) (R.serving site.now) in IfOk result (λ on. (taken : RunTurn R.Job) × (next ≡ Ok taken)
+            × TakesTurn view now.0 on taken self.old turn.old self.new turn.new
+            × Spends R.left R.bound (unit * size_of taken) self.old turn.old self.new turn.new) }
     {
         match next {
             Ok(next) => {
                 let mut next = next;
-                self.adopt_turn(turn, site, now, &mut next)
+                self.take_turn(turn, site, now, &mut next)
             }
             Err(error) => Err(error),
         }
     }
 
     /// Takes the run that begins, and its first turn, where there was the memory for them.
-    pub(crate) fn adopt_run(
+    pub(crate) fn take_run(
         &mut self,
         turn: &mut Turn<R::Job>,
         site: &R::Site,
         now: Ms,
         begun: Result<(R, RunTurn<R::Job>), AllocError>,
     ) -> Result<bool, AllocError>
-        ensures { IfOk result (λ on. (run : R) × (first : RunTurn R.Job) × (begun ≡ Ok (run, first))
-            × ((did : Performed R.Job (Both R.Inner)) (m : Move R.Job (Both R.Inner))
-            → Took (service_of (R.plan site.now) (R.serving site.now)) (R.holds site.now) (R.stands site.now) now.0 first did
-            (record self.old { run = Some run }) turn.old m
-            → Went (R.plan site.now) (R.holds site.now) (R.stands site.now) on did self.new turn.new m)
-            × Spends R.left R.bound (unit * (length first.acts.items + length first.said.items))
-            (record self.old { run = Some run }) turn.old self.new turn.new) }
+        ensures { let view = view_of (R.meaning site.now) (R.serving site.now) in IfOk result (λ on. (run : R) × (first : RunTurn R.Job) × (begun ≡ Ok (run, first))
+            × TakesTurn view now.0 on first (record self.old { run = Some run }) turn.old self.new turn.new
+            × Spends R.left R.bound (unit * size_of first) (record self.old { run = Some run }) turn.old self.new turn.new) }
     {
         match begun {
             Ok((run, first)) => {
                 self.run = Some(run);
-                self.adopt_next(turn, site, now, Ok(first))
+                self.take_next(turn, site, now, Ok(first))
             }
             Err(error) => Err(error),
         }
@@ -213,10 +168,10 @@ impl<R: ServiceContract> Connection<R> {
         seen: RunSeen,
     ) -> Result<bool, AllocError>
         requires { (run : R) → self.old.run ≡ Some run
-            → runs.MayBeTold (R.plan site.now) (R.holds site.now) (R.stands site.now) now.0 seen run }
-        ensures moves { IfOk result (λ on. (did : Performed R.Job (Both R.Inner)) (m : Move R.Job (Both R.Inner))
-            → Told (service_of (R.plan site.now) (R.serving site.now)) (R.holds site.now) (R.stands site.now) now.0 seen did self.old turn.old m
-            → Went (R.plan site.now) (R.holds site.now) (R.stands site.now) on did self.new turn.new m) }
+            → runs.MayBeTold (R.meaning site.now) now.0 seen run }
+        ensures moves { let view = view_of (R.meaning site.now) (R.serving site.now) in IfOk result (λ on. (did : Performed R.Job (Both R.Inner)) (m : Move R.Job (Both R.Inner))
+            → Told view now.0 seen did self.old turn.old m
+            → Went view on did self.new turn.new m) }
         ensures costs { runs.is_own_turn seen ≡ true → (self.old.run ≡ None → ⊥) →
             IfOk result (λ on. Pays R.left R.bound unit self.old turn.old self.new turn.new) }
     {
@@ -224,7 +179,7 @@ impl<R: ServiceContract> Connection<R> {
             Some(run) => {
                 self.waits = self.waits.told(&seen);
                 let next = run.given(alloc, site, now, seen);
-                self.adopt_next(turn, site, now, next)
+                self.take_next(turn, site, now, next)
             }
             None => Ok(false),
         }
@@ -240,16 +195,16 @@ impl<R: ServiceContract> Connection<R> {
         answer: Answer,
     ) -> Result<bool, AllocError>
         requires { (run : R) → self.old.run ≡ Some run
-            → runs.MayBeAnswered (R.plan site.now) (R.holds site.now) (R.stands site.now) answer run }
-        ensures moves { IfOk result (λ on. (did : Performed R.Job (Both R.Inner)) (m : Move R.Job (Both R.Inner))
-            → Answered (service_of (R.plan site.now) (R.serving site.now)) (R.holds site.now) (R.stands site.now) now.0 answer did self.old turn.old m
-            → Went (R.plan site.now) (R.holds site.now) (R.stands site.now) on did self.new turn.new m) }
+            → runs.MayBeAnswered (R.meaning site.now) answer run }
+        ensures moves { let view = view_of (R.meaning site.now) (R.serving site.now) in IfOk result (λ on. (did : Performed R.Job (Both R.Inner)) (m : Move R.Job (Both R.Inner))
+            → Answered view now.0 answer did self.old turn.old m
+            → Went view on did self.new turn.new m) }
         ensures costs { (self.old.run ≡ None → ⊥) → IfOk result (λ on. Pays R.left R.bound unit self.old turn.old self.new turn.new) }
     {
         match &mut self.run {
             Some(run) => {
                 let next = run.answer(alloc, site, now, answer);
-                self.adopt_next(turn, site, now, next)
+                self.take_next(turn, site, now, next)
             }
             None => Ok(false),
         }

@@ -11,7 +11,7 @@ impl<R: ServiceContract> Connection<R> {
     ghost use Rattle.std.specs.Prelude.{◌≡◌, IfOk};
     ghost use Rattle.connection_plan.specs.Turns.{begin_timer, end_timer};
     ghost use Rattle.connection_strand.specs.Kept.{timer_of};
-    ghost use Rattle.connection_plan.specs.Serving.{service_of};
+    ghost use Rattle.connection_strand.specs.Views.{view_of, service};
     ghost use Rattle.connection_strand.specs.Costs.{Spends};
     ghost use Rattle.connection_strand.specs.Standing.{Goes};
 
@@ -23,8 +23,9 @@ impl<R: ServiceContract> Connection<R> {
         now: Ms,
         timer: Timer,
     ) -> Result<(), AllocError>
-        ensures moves { IfOk result (λ done. Goes (R.plan site.now) (R.holds site.now) (R.stands site.now)
-            (begin_timer (service_of (R.plan site.now) (R.serving site.now)) now.0 (timer_of timer)) self.old turn.old self.new turn.new) }
+        ensures moves { let view = view_of (R.meaning site.now) (R.serving site.now) in IfOk result (λ done. Goes view
+            (begin_timer (service view) now.0 (timer_of timer)) self.old turn.old self.new turn.new) }
+        ensures waits { self.new.waits ≡ self.old.waits }
         ensures costs { IfOk result (λ done. Spends R.left R.bound 5 self.old turn.old self.new turn.new) }
     {
         let time = timer.time(R::default_times(site), self.client.times);
@@ -39,8 +40,8 @@ impl<R: ServiceContract> Connection<R> {
         _site: &R::Site,
         timer: Timer,
     ) -> Result<(), AllocError>
-        ensures moves { IfOk result (λ done. Goes (R.plan _site.now) (R.holds _site.now) (R.stands _site.now)
-            (end_timer (service_of (R.plan _site.now) (R.serving _site.now)) 0 (timer_of timer)) self.old turn.old self.new turn.new) }
+        ensures moves { let view = view_of (R.meaning _site.now) (R.serving _site.now) in IfOk result (λ done. Goes view
+            (end_timer (service view) 0 (timer_of timer)) self.old turn.old self.new turn.new) }
         ensures waits { self.new.waits ≡ self.old.waits }
         ensures count { self.new.count ≡ self.old.count }
         ensures reply { self.new.client.reply ≡ self.old.client.reply }

@@ -1,13 +1,15 @@
 //! What a run waits for.
 
-use run_contract::{RunSeen, Said};
+use run_contract::{Asking, RunSeen};
 
-/// Whether a run waits for the body of its request, or until all that was sent is taken; and whether it has a client.
+/// Whether a run waits for the body of its request, or until all that was sent is taken; whether it has a client; and what it asked its
+/// connection without an answer yet.
 #[derive(Clone, Copy)]
 pub(crate) struct Waits {
     pub(crate) body: bool,
     pub(crate) taken: bool,
     pub(crate) client: bool,
+    pub(crate) asks: Option<Asking>,
 }
 
 impl Waits {
@@ -23,6 +25,26 @@ impl Waits {
             body: false,
             taken: false,
             client,
+            asks: None,
+        }
+    }
+
+    /// Once it was told that what it asked for isn't there yet.
+    fn longer(self) -> Waits
+        ensures { waits_of result ≡ spec.waits_longer self.asks (waits_of self) }
+    {
+        match self.asks {
+            Some(Asking::Body(_)) => Waits {
+                body: true,
+                asks: None,
+                ..self
+            },
+            Some(Asking::AllTaken) => Waits {
+                taken: true,
+                asks: None,
+                ..self
+            },
+            None => self,
         }
     }
 
@@ -33,37 +55,17 @@ impl Waits {
         match seen {
             RunSeen::Body(_, _) | RunSeen::BodyRefused(_) => Waits {
                 body: false,
+                asks: None,
                 ..self
             },
             RunSeen::AllTaken => Waits {
                 taken: false,
+                asks: None,
                 ..self
             },
+            RunSeen::NotYet => self.longer(),
             RunSeen::ClientGone => Waits::at_first(false),
-            RunSeen::Run(_) | RunSeen::Due(_) | RunSeen::Sock(_, _) => self,
+            RunSeen::Run(_) | RunSeen::Due(_) | RunSeen::ClientEnded | RunSeen::Sock(_, _) => self,
         }
-    }
-
-    /// Once it said these; what would come after the end doesn't count.
-    pub(crate) fn said(self, words: &[Said]) -> Waits
-        ensures { waits_of result ≡ spec.waits_said words.now (waits_of self) }
-    {
-        let mut waits = self;
-        let mut rest = words;
-        while let [word, others @ ..] = rest {
-            match word {
-                Said::WantsBody(_) => waits.body = true,
-                Said::WantsNoBody => waits.body = false,
-                Said::WantsAllTaken => waits.taken = true,
-                Said::Over => {
-                    waits.body = false;
-                    waits.taken = false;
-                    return waits;
-                }
-                Said::Send(_) | Said::Ended(_) => {}
-            }
-            rest = others;
-        }
-        waits
     }
 }

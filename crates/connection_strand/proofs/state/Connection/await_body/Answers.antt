@@ -1,32 +1,29 @@
 use Rattle.std.proofs.Common.{sym, ap, ◌∙◌, ◌&&◌}
-use Rattle.connection_plan.specs.Timers as timer
-use Rattle.connection_plan.specs.Turns.{begin_timer}
-use Rattle.connection_strand.specs.Standing.{speaking}
+use Rattle.connection_strand.specs.Kept.{kept}
+use Rattle.connection_strand.specs.Standing.{plain}
+use Rattle.connection_strand.specs.Views.{view_of}
+use Rattle.connection_plan.specs.Clients as stage
+use Rattle.connection_strand.proofs.Ends.{ok-map}
 use Rattle.connection_strand.proofs.Offering.{and-none}
 use Rattle.connection_strand.proofs.Speaking.{awaits-body, awaits-none, may_come}
-use Rattle.connection_strand.specs.Kept.{kept}
 use Rattle.connection_strand.proofs.state.Connection.await_body.Goals.{else-self-via-then-self+else-awaits_body, else-self-via-else-self}
-use Rattle.connection_plan.specs.Serving.{service_of}
 use Rattle.connection_strand.proofs.state.Connection.await_body.Goals as goal
 
-pub returns-in_ok-begin_timer-clause-moves : goal.returns-in_ok-begin_timer-clause-moves
-returns-in_ok-begin_timer-clause-moves g c = λ q over did m h.
+pub returns-then-awaits_body : goal.returns-then-awaits_body
+returns-then-awaits_body g c =
     let site = c.args.site.now in
-    let r = g.R.RunContract in
+    let v = view_of (g.R.RunContract.meaning site) (g.R.ServiceContract.serving site) in
     let met = g.met.R.RunContract in
-    let service = service_of (r.plan site) (g.R.ServiceContract.serving site) in
-    c.in_ok-begin_timer.ensures.moves (speaking q over) did m
-    (c.in_ok-let_send.ensures.moves (speaking q over) did (begin_timer service c.args.now.0 timer.Body m) (awaits-body (service_of (r.plan site) (g.R.ServiceContract.serving site)) (r.holds site) (r.stands site) (met.meets site) (met.apart site)
-    c.args.now.0 q over did c.args.self.now c.args.turn.now m
-    (ap (λ x. x && may_come (kept c.args.self.now.client)) c.if-self.true ∙ sym c.awaits_body.ensures ∙ c.if-awaits_body.true) h))
+    ok-map c.wait_more.result _ _ (λ done goes. λ did m h. goes (plain stage.Busy) did m
+    (awaits-body v (met.meets site) (met.apart site) c.args.now.0 did c.args.self.now c.args.turn.now m
+    (ap (λ x. x && may_come (kept c.args.self.now.client)) c.if-self.true ∙ sym c.awaits_body.ensures ∙ c.if-awaits_body.true) h)) c.wait_more.ensures.moves
 
-pub returns-else-self-clause-moves : goal.returns-else-self-clause-moves
-returns-else-self-clause-moves g c = λ q over did m h.
+pub returns-else-self : goal.returns-else-self
+returns-else-self g c = λ did m h.
     let site = c.args.site.now in
-    let r = g.R.RunContract in
+    let v = view_of (g.R.RunContract.meaning site) (g.R.ServiceContract.serving site) in
     let met = g.met.R.RunContract in
-    awaits-none (service_of (r.plan site) (g.R.ServiceContract.serving site)) (r.holds site) (r.stands site) (met.meets site) (met.apart site)
-    c.args.now.0 q over did c.args.self.now c.args.turn.now m
+    awaits-none v (met.meets site) (met.apart site) c.args.now.0 did c.args.self.now c.args.turn.now m
     (elim c.else-self.branch [
       | else-self-via-then-self+else-awaits_body w ↦ and-none c.args.self.now.waits.body (may_come (kept c.args.self.now.client)) (sym w.awaits_body.ensures ∙ w.if-awaits_body.false)
       | else-self-via-else-self w ↦ ap (λ x. x && may_come (kept c.args.self.now.client)) w.if-self.false

@@ -6,15 +6,15 @@ use Rattle.connection_plan.specs.Serving.{times}
 use Rattle.connection_strand.proofs.Ends.{ok-map}
 use Rattle.connection_strand.proofs.Moving.{begins}
 use Rattle.connection_strand.proofs.Costing.{begins-costs}
-use Rattle.connection_plan.specs.Serving.{service_of}
+use Rattle.connection_strand.specs.Views.{view_of, service}
 use Rattle.connection_strand.proofs.state.Connection.begin_timer.Goals as goal
 
 pub returns-clause-moves : goal.returns-clause-moves
 returns-clause-moves g c =
     let site = c.args.site.now in
-    let r = g.R.RunContract in
+    let v = view_of (g.R.RunContract.meaning site) (g.R.ServiceContract.serving site) in
     let met = g.met.R.RunContract in
-    ok-map c.put.result _ _ (λ done acts. λ e did m h. begins (service_of (r.plan site) (g.R.ServiceContract.serving site)) (r.holds site) (r.stands site) (met.meets site) (met.apart site)
+    ok-map c.put.result _ _ (λ done acts. λ e did m h. begins v (met.meets site) (met.apart site)
     c.args.now.0 (timer_of c.args.timer) e did c.args.self.now _ c.args.turn.now _ m c.time-time.result.0
     (record { run = refl; waits = refl; sockets = refl; count = refl; keeping = refl; taking = refl }) c.set_armed.ensures refl
     (c.time-time.ensures ∙ ap (λ x. time_of x (times c.args.self.now.client.times) (timer_of c.args.timer)) c.default_times.ensures)

@@ -8,7 +8,7 @@ use Rattle.connection_strand.proofs.Ends.{ok-map}
 use Rattle.connection_strand.proofs.Facing.{from-here}
 use Rattle.connection_strand.proofs.Nexts.{fed-answered}
 use Rattle.connection_strand.proofs.Coming.{comes}
-use Rattle.connection_plan.specs.Serving.{service_of}
+use Rattle.connection_strand.specs.Views.{view_of, service}
 use Rattle.connection_strand.proofs.state.Connection.came.Goals as goal
 
 pub hear_at-requires-clause-answered : goal.hear_at-requires-clause-answered
@@ -17,27 +17,25 @@ hear_at-requires-clause-answered g c = fed-answered c.args.self.now.client.line.
 pub hear_at-requires-clause-within : goal.hear_at-requires-clause-within
 hear_at-requires-clause-within g c =
     let site = c.args.site.now in
-    let r = g.R.RunContract in
+    let v = view_of (g.R.RunContract.meaning site) (g.R.ServiceContract.serving site) in
     let met = g.met.R.RunContract in
-    let service = service_of (r.plan site) (g.R.ServiceContract.serving site) in
     let now = c.args.now.0 in
     let old = c.args.self.now.client in
     let new = c.fed.new.self.came in
-    let x = from-here service (r.holds site) (r.stands site) (met.meets site) (met.apart site) c.requires.0 c.args.self.now c.args.turn.now c.requires.1
-    (Look (λ b s. came_at service now s.client.stage (fed s.client.came c.args.bytes.now) s)) in
-    let t = comes service (r.holds site) (r.stands site) (met.meets site) (met.apart site) now c.args.bytes.now c.fed.result c.requires.0 x.0 c.args.self.now (record c.args.self.now { client = record old { line = c.fed.new.self } }) c.args.turn.now (record { run = refl; waits = refl; sockets = refl; count = refl; keeping = refl; taking = refl })
+    let x = from-here v (met.meets site) (met.apart site) c.requires.0 c.args.self.now c.args.turn.now c.requires.1
+    (Look (λ b s. came_at (service v) now s.client.stage (fed s.client.came c.args.bytes.now) s)) in
+    let t = comes v (met.meets site) (met.apart site) now c.args.bytes.now c.fed.result c.requires.0 x.0 c.args.self.now (record c.args.self.now { client = record old { line = c.fed.new.self } }) c.args.turn.now (record { run = refl; waits = refl; sockets = refl; count = refl; keeping = refl; taking = refl })
     (c.fed.ensures.led c.in_default.not-Memory) (ap (λ (q : Sending). record (kept old) { came = new; sending = q }) c.fed.ensures.sending) x.1 in
     (c.requires.0, (t.ledger, t.inner, t.within))
 
 pub returns-in_default : goal.returns-in_default
 returns-in_default g c =
     let site = c.args.site.now in
-    let r = g.R.RunContract in
+    let v = view_of (g.R.RunContract.meaning site) (g.R.ServiceContract.serving site) in
     let met = g.met.R.RunContract in
-    let service = service_of (r.plan site) (g.R.ServiceContract.serving site) in
     let now = c.args.now.0 in
     let old = c.args.self.now.client in
     let new = c.fed.new.self.came in
     ok-map c.hear_at.result _ _ (λ done ends. λ st did h. ends st did
-    (comes service (r.holds site) (r.stands site) (met.meets site) (met.apart site) now c.args.bytes.now c.fed.result st did c.args.self.now (record c.args.self.now { client = record old { line = c.fed.new.self } }) c.args.turn.now (record { run = refl; waits = refl; sockets = refl; count = refl; keeping = refl; taking = refl })
+    (comes v (met.meets site) (met.apart site) now c.args.bytes.now c.fed.result st did c.args.self.now (record c.args.self.now { client = record old { line = c.fed.new.self } }) c.args.turn.now (record { run = refl; waits = refl; sockets = refl; count = refl; keeping = refl; taking = refl })
     (c.fed.ensures.led c.in_default.not-Memory) (ap (λ (q : Sending). record (kept old) { came = new; sending = q }) c.fed.ensures.sending) h)) c.hear_at.ensures

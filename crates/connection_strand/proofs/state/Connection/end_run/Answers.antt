@@ -1,16 +1,18 @@
-use Rattle.std.proofs.Common.{true, refl}
+use Rattle.std.proofs.Common.{◌∷◌, refl}
 use Rattle.connection_plan.specs.Clients as stage
-use Rattle.connection_plan.specs.Serving.{service_of}
 use Rattle.connection_plan.specs.Turns.{change}
-use Rattle.connection_strand.specs.Standing.{speaking}
+use Rattle.run_contract.specs.declared.turns.Said.TheVariants as said
+use Rattle.run_contract.specs.declared.turns.RunAct.TheVariants as made
+use Rattle.run_contract.specs.Deeds.{Say}
+use Rattle.connection_strand.specs.Views.{view_of, service}
+use Rattle.connection_strand.specs.Standing.{taking}
 use Rattle.connection_strand.proofs.Speaking.{flushes}
 use Rattle.connection_strand.proofs.state.Connection.end_run.Goals as goal
 
 pub returns-clause-moves : goal.returns-clause-moves
-returns-clause-moves g c = λ q did m h.
+returns-clause-moves g c = λ st ds a rest did m h.
     let site = c.args.site.now in
-    let r = g.R.RunContract in
+    let v = view_of (g.R.RunContract.meaning site) (g.R.ServiceContract.serving site) in
     let met = g.met.R.RunContract in
-    let service = service_of (r.plan site) (g.R.ServiceContract.serving site) in
-    flushes service (r.holds site) (r.stands site) (met.meets site) (met.apart site) q true did _ _ _ m refl refl refl refl refl refl
-    (c.in_ok-end_timer.ensures.moves (speaking q true) did (change (λ k. record k { stage = stage.Flush }) m) h)
+    flushes v (met.meets site) (met.apart site) st ds a rest did _ _ _ m refl refl refl refl refl
+    (c.in_ok-end_timer.ensures.moves (taking st (Say said.Over ∷ ds) a (made.Say said.Over ∷ rest)) did (change (λ k. record k { stage = stage.Flush }) m) h)

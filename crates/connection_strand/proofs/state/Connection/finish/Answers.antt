@@ -3,7 +3,7 @@ use Rattle.connection_strand.specs.declared.state.Turn.{Turn}
 use Rattle.connection_strand.proofs.Ends.{ok-map}
 use Rattle.connection_strand.proofs.Losing.{finishes, client_act}
 use Rattle.connection_strand.proofs.state.Connection.finish.Goals.{then-self+in_ok-put, else-self}
-use Rattle.connection_plan.specs.Serving.{service_of}
+use Rattle.connection_strand.specs.Views.{view_of, service}
 use Rattle.std.proofs.Common.{◌*◌, ◌+◌, length, arith, not}
 use Rattle.connection_strand.specs.Kept.{kept}
 use Rattle.connection_strand.specs.Costs.{unit, units, whole, weight_if}
@@ -14,11 +14,11 @@ use Rattle.connection_strand.proofs.state.Connection.finish.Goals as goal
 pub returns-clause-moves : goal.returns-clause-moves
 returns-clause-moves g c =
     let site = c.args._site.now in
-    let r = g.R.RunContract in
+    let v = view_of (g.R.RunContract.meaning site) (g.R.ServiceContract.serving site) in
     let met = g.met.R.RunContract in
     let old = c.args.turn.now.acts.items in
     ok-map c.put-2.result _ _ (λ done gone. λ st did h.
-    finishes (service_of (r.plan site) (g.R.ServiceContract.serving site)) (r.holds site) (r.stands site) st did c.args.self.now _ c.args.turn.now _ c.if-self.turn.acts.items c.hang_up_sockets.new.turn.acts.items
+    finishes v st did c.args.self.now _ c.args.turn.now _ c.if-self.turn.acts.items c.hang_up_sockets.new.turn.acts.items
     (elim c.if-self.branch [
       | then-self+in_ok-put w ↦ ap (λ (t : Turn g.row.R-Job.Denot). t.acts.items) w.turn-is ∙ w.in_ok-put.ensures ∙ ap (λ o. old ++ client_act o) (sym w.if-self.true)
       | else-self w ↦ ap (λ (t : Turn g.row.R-Job.Denot). t.acts.items) w.turn-is ∙ sym (append-nil old) ∙ ap (λ o. old ++ client_act o) (sym w.if-self.false)

@@ -1,6 +1,6 @@
 use Rattle.std.proofs.Common.{◌≡◌, true, false, not, ◌||◌, sym, ap, ◌∙◌}
 use Rattle.connection_plan.specs.Clients.{closes_after}
-use Rattle.connection_plan.specs.Serving.{service_of}
+use Rattle.connection_strand.specs.Views.{view_of, service}
 use Rattle.connection_strand.specs.Kept.{kept}
 use Rattle.connection_strand.proofs.Ends.{ok-map, done-came}
 use Rattle.connection_strand.proofs.Settled.{flush-sends, flush-ends, flush-goes-on}
@@ -10,7 +10,7 @@ use Rattle.connection_strand.proofs.state.Connection.flush.Goals as goal
 pub returns-then-not-self-clause-moves : goal.returns-then-not-self-clause-moves
 returns-then-not-self-clause-moves g c = λ st free did m h.
     let site = c.args.site.now in
-    let r = g.R.RunContract in
+    let v = view_of (g.R.RunContract.meaning site) (g.R.ServiceContract.serving site) in
     let met = g.met.R.RunContract in
     let k = kept c.args.self.now.client in
     let ends : (not k.opened || closes_after k.reply) ≡ true = elim c.then-not-self.branch [
@@ -18,25 +18,25 @@ returns-then-not-self-clause-moves g c = λ st free did m h.
       | then-not-self-via-else-not-self+then-closes_after w ↦ ap (λ o. not o || closes_after k.reply) w.if-not-self.false ∙ sym w.closes_after.ensures ∙ w.if-closes_after.true
     ] in
     c.in_ok-finish.ensures.moves st did
-    (flush-ends (service_of (r.plan site) (g.R.ServiceContract.serving site)) (r.holds site) (r.stands site) (met.meets site) (met.apart site) c.args.now.0 m _ did c.args.self.now c.args.turn.now
+    (flush-ends v (met.meets site) (met.apart site) c.args.now.0 m _ did c.args.self.now c.args.turn.now
     (sym c.if-not-is_all_taken.ensures) ends h)
 
 pub returns-clause-moves : goal.returns-clause-moves
 returns-clause-moves g c =
     let site = c.args.site.now in
-    let r = g.R.RunContract in
+    let v = view_of (g.R.RunContract.meaning site) (g.R.ServiceContract.serving site) in
     let met = g.met.R.RunContract in
     let k = kept c.args.self.now.client in
     let goes : (not k.opened || closes_after k.reply) ≡ false = ap (λ o. not o || closes_after k.reply) c.if-not-self.false ∙ sym c.closes_after.ensures ∙ c.if-closes_after.false in
     ok-map c.next.result _ _ (λ on follows. λ st free did m h. follows st free did m
-    (flush-goes-on (service_of (r.plan site) (g.R.ServiceContract.serving site)) (r.holds site) (r.stands site) (met.meets site) (met.apart site) c.args.now.0 m _ did c.args.self.now c.args.turn.now
+    (flush-goes-on v (met.meets site) (met.apart site) c.args.now.0 m _ did c.args.self.now c.args.turn.now
     (sym c.if-not-is_all_taken.ensures) goes h)) c.next.ensures.moves
 
 pub returns-then-not-is_all_taken-clause-moves : goal.returns-then-not-is_all_taken-clause-moves
 returns-then-not-is_all_taken-clause-moves g c = λ st free did m h.
     let site = c.args.site.now in
-    let r = g.R.RunContract in
+    let v = view_of (g.R.RunContract.meaning site) (g.R.ServiceContract.serving site) in
     let met = g.met.R.RunContract in
-    done-came (r.plan site) (r.holds site) (r.stands site) st did c.args.self.now c.args.turn.now
-    (flush-sends (service_of (r.plan site) (g.R.ServiceContract.serving site)) (r.holds site) (r.stands site) (met.meets site) (met.apart site) c.args.now.0 m _ did c.args.self.now c.args.turn.now
+    done-came v st did c.args.self.now c.args.turn.now
+    (flush-sends v (met.meets site) (met.apart site) c.args.now.0 m _ did c.args.self.now c.args.turn.now
     (sym c.if-not-is_all_taken.ensures) h)

@@ -1,7 +1,7 @@
 use Rattle.std.proofs.Common.{subst}
 use Rattle.connection_plan.specs.Turns.{settle}
 use Rattle.connection_strand.specs.Standing.{Went}
-use Rattle.connection_plan.specs.Serving.{service_of}
+use Rattle.connection_strand.specs.Views.{view_of, service}
 use Rattle.connection_strand.proofs.Ends.{ok-map}
 use Rattle.connection_strand.proofs.Falling.{told-falls, told-settled}
 use Rattle.connection_strand.proofs.state.Connection.go_on.Goals as goal
@@ -9,32 +9,29 @@ use Rattle.connection_strand.proofs.state.Connection.go_on.Goals as goal
 pub to_run-requires : goal.to_run-requires
 to_run-requires g c =
     let site = c.args.site.now in
-    let r = g.R.RunContract in
+    let v = view_of (g.R.RunContract.meaning site) (g.R.ServiceContract.serving site) in
     let met = g.met.R.RunContract in
-    let service = service_of (r.plan site) (g.R.ServiceContract.serving site) in
     let now = c.args.now.0 in
-    (c.requires.0, settle service now, c.requires.1)
+    (c.requires.0, settle (service v) now, c.requires.1)
 
 pub settle_all-requires : goal.settle_all-requires
 settle_all-requires g c =
     let site = c.args.site.now in
-    let r = g.R.RunContract in
+    let v = view_of (g.R.RunContract.meaning site) (g.R.ServiceContract.serving site) in
     let met = g.met.R.RunContract in
-    let service = service_of (r.plan site) (g.R.ServiceContract.serving site) in
     let now = c.args.now.0 in
-    let t = subst (λ on. Went (r.plan site) (r.holds site) (r.stands site) on c.requires.0 c.to_run.new.self c.to_run.new.turn (settle service now)) c.if-not-goes_on.false
-    (c.in_ok-goes_on.ensures.moves c.requires.0 (settle service now) c.requires.1) in
+    let t = subst (λ on. Went v on c.requires.0 c.to_run.new.self c.to_run.new.turn (settle (service v) now)) c.if-not-goes_on.false
+    (c.in_ok-goes_on.ensures.moves c.requires.0 (settle (service v) now) c.requires.1) in
     (t.0, (t.1.ledger, t.1.inner, t.1.within))
 
 pub returns-then-not-goes_on-clause-moves : goal.returns-then-not-goes_on-clause-moves
 returns-then-not-goes_on-clause-moves g c = λ did h.
     let site = c.args.site.now in
-    let r = g.R.RunContract in
+    let v = view_of (g.R.RunContract.meaning site) (g.R.ServiceContract.serving site) in
     let met = g.met.R.RunContract in
-    let service = service_of (r.plan site) (g.R.ServiceContract.serving site) in
     let now = c.args.now.0 in
-    subst (λ on. Went (r.plan site) (r.holds site) (r.stands site) on did c.to_run.new.self c.to_run.new.turn (settle service now)) c.if-not-goes_on.true
-    (c.in_ok-goes_on.ensures.moves did (settle service now) h)
+    subst (λ on. Went v on did c.to_run.new.self c.to_run.new.turn (settle (service v) now)) c.if-not-goes_on.true
+    (c.in_ok-goes_on.ensures.moves did (settle (service v) now) h)
 
 pub returns-then-not-goes_on-clause-falls : goal.returns-then-not-goes_on-clause-falls
 returns-then-not-goes_on-clause-falls g c other own =
@@ -43,13 +40,12 @@ returns-then-not-goes_on-clause-falls g c other own =
 pub returns-clause-moves : goal.returns-clause-moves
 returns-clause-moves g c =
     let site = c.args.site.now in
-    let r = g.R.RunContract in
+    let v = view_of (g.R.RunContract.meaning site) (g.R.ServiceContract.serving site) in
     let met = g.met.R.RunContract in
-    let service = service_of (r.plan site) (g.R.ServiceContract.serving site) in
     let now = c.args.now.0 in
     ok-map c.settle_all.result _ _ (λ done ends. λ did h.
-    let t = subst (λ on. Went (r.plan site) (r.holds site) (r.stands site) on did c.to_run.new.self c.to_run.new.turn (settle service now)) c.if-not-goes_on.false
-    (c.in_ok-goes_on.ensures.moves did (settle service now) h) in
+    let t = subst (λ on. Went v on did c.to_run.new.self c.to_run.new.turn (settle (service v) now)) c.if-not-goes_on.false
+    (c.in_ok-goes_on.ensures.moves did (settle (service v) now) h) in
     ends t.0 did t.1) c.settle_all.ensures.moves
 
 pub returns-clause-falls : goal.returns-clause-falls

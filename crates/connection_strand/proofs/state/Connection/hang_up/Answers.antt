@@ -1,7 +1,7 @@
 use Rattle.std.proofs.Common.{refl}
 use Rattle.connection_strand.proofs.Ends.{ok-map}
 use Rattle.connection_strand.proofs.Losing.{hangs-up, hangs-not}
-use Rattle.connection_plan.specs.Serving.{service_of}
+use Rattle.connection_strand.specs.Views.{view_of, service}
 use Rattle.connection_strand.proofs.Costing.{hangs-costs, one-longer, spends-nothing}
 use Rattle.connection_strand.proofs.Falling.{hung-pays}
 use Rattle.connection_strand.specs.declared.state.Turn.{Turn}
@@ -10,17 +10,17 @@ use Rattle.connection_strand.proofs.state.Connection.hang_up.Goals as goal
 pub returns-then-not-self-clause-moves : goal.returns-then-not-self-clause-moves
 returns-then-not-self-clause-moves g c = λ e did m h.
     let site = c.args._site.now in
-    let r = g.R.RunContract in
+    let v = view_of (g.R.RunContract.meaning site) (g.R.ServiceContract.serving site) in
     let met = g.met.R.RunContract in
-    hangs-not (service_of (r.plan site) (g.R.ServiceContract.serving site)) (r.holds site) (r.stands site) (met.meets site) (met.apart site)
+    hangs-not v (met.meets site) (met.apart site)
     e did c.args.self.now c.args.turn.now m c.if-not-self.true h
 
 pub returns-clause-moves : goal.returns-clause-moves
 returns-clause-moves g c =
     let site = c.args._site.now in
-    let r = g.R.RunContract in
+    let v = view_of (g.R.RunContract.meaning site) (g.R.ServiceContract.serving site) in
     let met = g.met.R.RunContract in
-    ok-map c.put.result _ _ (λ done acts. λ e did m h. hangs-up (service_of (r.plan site) (g.R.ServiceContract.serving site)) (r.holds site) (r.stands site) (met.meets site) (met.apart site)
+    ok-map c.put.result _ _ (λ done acts. λ e did m h. hangs-up v (met.meets site) (met.apart site)
     e did c.args.self.now _ c.args.turn.now _ m (record { run = refl; waits = refl; sockets = refl; count = refl; keeping = refl; taking = refl }) c.if-not-self.false c.hang_up.ensures acts h) c.put.ensures
 
 pub returns-clause-pays : goal.returns-clause-pays

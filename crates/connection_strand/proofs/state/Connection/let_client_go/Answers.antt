@@ -1,6 +1,6 @@
 use Rattle.connection_plan.specs.Timers as timer
 use Rattle.connection_plan.specs.Turns.{end_timer}
-use Rattle.connection_plan.specs.Serving.{service_of}
+use Rattle.connection_strand.specs.Views.{view_of, service}
 use Rattle.connection_strand.proofs.Costing.{spends-after}
 use Rattle.connection_strand.proofs.Ends.{ok-map}
 use Rattle.connection_strand.proofs.Falling.{pays-on}
@@ -9,11 +9,10 @@ use Rattle.connection_strand.proofs.state.Connection.let_client_go.Goals as goal
 pub returns-clause-moves : goal.returns-clause-moves
 returns-clause-moves g c =
     let site = c.args.site.now in
-    let r = g.R.RunContract in
-    let service = service_of (r.plan site) (g.R.ServiceContract.serving site) in
+    let v = view_of (g.R.RunContract.meaning site) (g.R.ServiceContract.serving site) in
     ok-map c.end_timer-2.result _ _ (λ done goes. λ e did m h. goes e did m
-    (c.in_ok-end_timer.ensures.moves e did (end_timer service 0 timer.Send m)
-    (c.in_ok-hang_up.ensures.moves e did (end_timer service 0 timer.Body (end_timer service 0 timer.Send m)) h))) c.end_timer-2.ensures.moves
+    (c.in_ok-end_timer.ensures.moves e did (end_timer (service v) 0 timer.Send m)
+    (c.in_ok-hang_up.ensures.moves e did (end_timer (service v) 0 timer.Body (end_timer (service v) 0 timer.Send m)) h))) c.end_timer-2.ensures.moves
 
 pub returns-clause-costs : goal.returns-clause-costs
 returns-clause-costs g c =

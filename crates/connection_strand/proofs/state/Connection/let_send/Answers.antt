@@ -1,37 +1,37 @@
 use Rattle.std.proofs.Common.{refl, ap, inl, inr, false}
 use Rattle.connection_strand.specs.Kept.{reply_of}
 use Rattle.connection_strand.proofs.Speaking.{lets, lets-reply, lets-begun, lets-waited, begun-is, whole-is}
-use Rattle.connection_plan.specs.Serving.{service_of}
+use Rattle.connection_strand.specs.Views.{view_of, service}
 use Rattle.connection_strand.proofs.state.Connection.let_send.Goals as goal
 
 pub returns-in_ok-send-in-Unsent-clause-moves : goal.returns-in_ok-send-in-Unsent-clause-moves
 returns-in_ok-send-in-Unsent-clause-moves g c = λ e did m h.
     let site = c.args.site.now in
-    let r = g.R.RunContract in
+    let v = view_of (g.R.RunContract.meaning site) (g.R.ServiceContract.serving site) in
     let met = g.met.R.RunContract in
-    c.in_ok-send-in-Unsent.ensures.moves e did m (lets-reply (service_of (r.plan site) (g.R.ServiceContract.serving site)) (r.holds site) (r.stands site) (met.meets site) (met.apart site) c.continue_reply.result
+    c.in_ok-send-in-Unsent.ensures.moves e did m (lets-reply v (met.meets site) (met.apart site) c.continue_reply.result
     e did c.args.self.now _ c.args.turn.now m c.continue_reply.ensures (ap reply_of c.in-Unsent.is) c.if-self.false c.if-self-2.true (record { run = refl; waits = refl; sockets = refl; count = refl; keeping = refl; taking = refl }) refl h)
 
 pub returns-else-self-2-clause-moves : goal.returns-else-self-2-clause-moves
 returns-else-self-2-clause-moves g c = λ e did m h.
     let site = c.args.site.now in
-    let r = g.R.RunContract in
+    let v = view_of (g.R.RunContract.meaning site) (g.R.ServiceContract.serving site) in
     let met = g.met.R.RunContract in
-    lets (service_of (r.plan site) (g.R.ServiceContract.serving site)) (r.holds site) (r.stands site) (met.meets site) (met.apart site)
+    lets v (met.meets site) (met.apart site)
     e did c.args.self.now _ c.args.turn.now m false (ap reply_of c.in-Unsent.is) c.if-self.false c.if-self-2.false (record { run = refl; waits = refl; sockets = refl; count = refl; keeping = refl; taking = refl }) refl h
 
 pub returns-then-self-clause-moves : goal.returns-then-self-clause-moves
 returns-then-self-clause-moves g c = λ e did m h.
     let site = c.args.site.now in
-    let r = g.R.RunContract in
+    let v = view_of (g.R.RunContract.meaning site) (g.R.ServiceContract.serving site) in
     let met = g.met.R.RunContract in
-    lets-waited (service_of (r.plan site) (g.R.ServiceContract.serving site)) (r.holds site) (r.stands site) (met.meets site) (met.apart site)
+    lets-waited v (met.meets site) (met.apart site)
     e did c.args.self.now c.args.turn.now m c.if-self.true h
 
 pub returns-in-Begun-clause-moves : goal.returns-in-Begun-clause-moves
 returns-in-Begun-clause-moves g c = λ e did m h.
     let site = c.args.site.now in
-    let r = g.R.RunContract in
+    let v = view_of (g.R.RunContract.meaning site) (g.R.ServiceContract.serving site) in
     let met = g.met.R.RunContract in
-    lets-begun (service_of (r.plan site) (g.R.ServiceContract.serving site)) (r.holds site) (r.stands site) (met.meets site) (met.apart site)
+    lets-begun v (met.meets site) (met.apart site)
     e did c.args.self.now c.args.turn.now m (elim c.in-Begun.is [ inl x ↦ begun-is c.args.self.now.client.reply x | inr x ↦ whole-is c.args.self.now.client.reply x.0 x.1 ]) h

@@ -1,14 +1,15 @@
-use Rattle.std.proofs.Common.{refl, true, false}
+use Rattle.std.proofs.Common.{refl, true, false, ap, ◌∙◌}
 use Rattle.strand_contract.specs.declared.turns.Place.TheVariants as place
 use Rattle.strand_plans.specs.Moves.{Done, HangUp}
 use Rattle.run_contract.specs.declared.turns.RunSeen.TheVariants as seen
 use Rattle.connection_plan.specs.Clients as stage
 use Rattle.connection_plan.specs.Timers as timer
 use Rattle.connection_plan.specs.Turns.{end_timer}
-use Rattle.connection_plan.specs.Serving.{service_of}
+use Rattle.connection_strand.specs.Views.{view_of, service}
 use Rattle.connection_strand.specs.Costs.{unit}
 use Rattle.connection_strand.specs.Standing.{plain}
-use Rattle.connection_strand.proofs.Losing.{has-run, tells, may-tell, loses-busy, busy-is, may-be-gone, goes-at, done, went-done, tells_gone, tells-gone}
+use Rattle.connection_strand.proofs.Losing.{has-run, tells, may-tell, loses-busy, busy-is, may-be-gone, goes-at, tells_gone, tells-gone}
+use Rattle.connection_strand.proofs.Ends.{done-came, went-came}
 use Rattle.connection_strand.proofs.Costing.{loses-costs, ends-within}
 use Rattle.connection_strand.proofs.Falling.{lost-falls, lost-alone, paid-spends}
 use Rattle.connection_strand.proofs.state.Connection.lose_busy.Goals as goal
@@ -16,44 +17,40 @@ use Rattle.connection_strand.proofs.state.Connection.lose_busy.Goals as goal
 pub tell-requires : goal.tell-requires
 tell-requires g c =
     let site = c.args.site.now in
-    let r = g.R.RunContract in
-    let service = service_of (r.plan site) (g.R.ServiceContract.serving site) in
-    may-tell service (r.holds site) (r.stands site) c.args.now.0 seen.ClientGone c.let_client_go.new.self c.let_client_go.new.turn
-    (may-be-gone service (r.holds site) (r.stands site) c.args.now.0 c.let_client_go.new.self c.if-self.true)
-    (goes-at service (r.holds site) (r.stands site) (λ m. HangUp place.Client (end_timer service 0 timer.Body (end_timer service 0 timer.Send m))) stage.Busy _ _ _ _ c.in_ok-let_client_go.ensures.moves c.requires)
+    let v = view_of (g.R.RunContract.meaning site) (g.R.ServiceContract.serving site) in
+    may-tell v c.args.now.0 seen.ClientGone c.let_client_go.new.self c.let_client_go.new.turn
+    (may-be-gone v c.args.now.0 c.let_client_go.new.self c.if-self.true (ap (λ w. w.asks) c.in_ok-let_client_go.ensures.waits ∙ c.requires.unasked))
+    (goes-at v (λ m. HangUp place.Client (end_timer (service v) 0 timer.Body (end_timer (service v) 0 timer.Send m))) stage.Busy _ _ _ _ c.in_ok-let_client_go.ensures.moves c.requires.within)
 
 pub returns-in_ok-tell-clause-moves : goal.returns-in_ok-tell-clause-moves
 returns-in_ok-tell-clause-moves g c = λ st did h.
     let site = c.args.site.now in
-    let r = g.R.RunContract in
-    let service = service_of (r.plan site) (g.R.ServiceContract.serving site) in
-    let gone = tells_gone service (r.holds site) (r.stands site) c.args.now.0 in
+    let v = view_of (g.R.RunContract.meaning site) (g.R.ServiceContract.serving site) in
+    let gone = tells_gone v c.args.now.0 in
     let left = c.in_ok-let_client_go.ensures.moves (plain stage.Busy) did gone
-    (loses-busy service (r.holds site) (r.stands site) c.args.now.0 st did c.args.self.now c.args.turn.now (busy-is service (r.holds site) (r.stands site) c.args.self.now c.args.turn.now c.requires) h) in
-    went-done service (r.holds site) (r.stands site) c.in_ok-tell.field-0 did c.tell.new.self c.tell.new.turn
-    (c.in_ok-tell.ensures.moves did Done (tells service (r.holds site) (r.stands site) c.args.now.0 seen.ClientGone did c.let_client_go.new.self c.let_client_go.new.turn Done
-    (may-be-gone service (r.holds site) (r.stands site) c.args.now.0 c.let_client_go.new.self c.if-self.true)
-    (tells-gone service (r.holds site) (r.stands site) c.args.now.0 did c.let_client_go.new.self c.let_client_go.new.turn true c.if-self.true left)))
+    (loses-busy v c.args.now.0 st did c.args.self.now c.args.turn.now (busy-is v c.args.self.now c.args.turn.now c.requires.within) h) in
+    went-came v c.in_ok-tell.field-0 did c.tell.new.self c.tell.new.turn
+    (c.in_ok-tell.ensures.moves did Done (tells v c.args.now.0 seen.ClientGone did c.let_client_go.new.self c.let_client_go.new.turn Done
+    (may-be-gone v c.args.now.0 c.let_client_go.new.self c.if-self.true (ap (λ w. w.asks) c.in_ok-let_client_go.ensures.waits ∙ c.requires.unasked))
+    (tells-gone v c.args.now.0 did c.let_client_go.new.self c.let_client_go.new.turn true c.if-self.true left)))
 
 pub returns-else-self-clause-moves : goal.returns-else-self-clause-moves
 returns-else-self-clause-moves g c = λ st did h.
     let site = c.args.site.now in
-    let r = g.R.RunContract in
-    let service = service_of (r.plan site) (g.R.ServiceContract.serving site) in
-    let gone = tells_gone service (r.holds site) (r.stands site) c.args.now.0 in
+    let v = view_of (g.R.RunContract.meaning site) (g.R.ServiceContract.serving site) in
+    let gone = tells_gone v c.args.now.0 in
     let left = c.in_ok-let_client_go.ensures.moves (plain stage.Busy) did gone
-    (loses-busy service (r.holds site) (r.stands site) c.args.now.0 st did c.args.self.now c.args.turn.now (busy-is service (r.holds site) (r.stands site) c.args.self.now c.args.turn.now c.requires) h) in
-    done service (r.holds site) (r.stands site) stage.Busy did c.let_client_go.new.self c.let_client_go.new.turn
-    (tells-gone service (r.holds site) (r.stands site) c.args.now.0 did c.let_client_go.new.self c.let_client_go.new.turn false c.if-self.false left)
+    (loses-busy v c.args.now.0 st did c.args.self.now c.args.turn.now (busy-is v c.args.self.now c.args.turn.now c.requires.within) h) in
+    done-came v stage.Busy did c.let_client_go.new.self c.let_client_go.new.turn
+    (tells-gone v c.args.now.0 did c.let_client_go.new.self c.let_client_go.new.turn false c.if-self.false left)
 
 pub returns-in_ok-tell-clause-costs : goal.returns-in_ok-tell-clause-costs
 returns-in_ok-tell-clause-costs g c =
     let site = c.args.site.now in
-    let r = g.R.RunContract in
-    let service = service_of (r.plan site) (g.R.ServiceContract.serving site) in
+    let v = view_of (g.R.RunContract.meaning site) (g.R.ServiceContract.serving site) in
     loses-costs g.R.RunContract.left g.R.ServiceContract.bound c.args.self.now c.let_client_go.new.self c.tell.new.self c.args.turn.now c.let_client_go.new.turn c.tell.new.turn
-    c.in_ok-let_client_go.ensures.costs (c.in_ok-tell.ensures.costs refl (has-run service (r.holds site) (r.stands site) c.let_client_go.new.self c.let_client_go.new.turn
-    (goes-at service (r.holds site) (r.stands site) (λ m. HangUp place.Client (end_timer service 0 timer.Body (end_timer service 0 timer.Send m))) stage.Busy _ _ _ _ c.in_ok-let_client_go.ensures.moves c.requires)))
+    c.in_ok-let_client_go.ensures.costs (c.in_ok-tell.ensures.costs refl (has-run v c.let_client_go.new.self c.let_client_go.new.turn
+    (goes-at v (λ m. HangUp place.Client (end_timer (service v) 0 timer.Body (end_timer (service v) 0 timer.Send m))) stage.Busy _ _ _ _ c.in_ok-let_client_go.ensures.moves c.requires.within)))
 
 pub returns-else-self-clause-costs : goal.returns-else-self-clause-costs
 returns-else-self-clause-costs g c =
@@ -62,13 +59,12 @@ returns-else-self-clause-costs g c =
 pub returns-in_ok-tell-clause-falls : goal.returns-in_ok-tell-clause-falls
 returns-in_ok-tell-clause-falls g c there =
     let site = c.args.site.now in
-    let r = g.R.RunContract in
-    let service = service_of (r.plan site) (g.R.ServiceContract.serving site) in
+    let v = view_of (g.R.RunContract.meaning site) (g.R.ServiceContract.serving site) in
     lost-falls g.R.RunContract.left g.R.ServiceContract.bound c.args.self.now c.let_client_go.new.self c.tell.new.self c.args.turn.now c.let_client_go.new.turn c.tell.new.turn
     (c.in_ok-let_client_go.ensures.pays there)
     (paid-spends g.R.RunContract.left g.R.ServiceContract.bound unit c.let_client_go.new.self c.tell.new.self c.let_client_go.new.turn c.tell.new.turn (c.in_ok-tell.ensures.costs refl
-    (has-run service (r.holds site) (r.stands site) c.let_client_go.new.self c.let_client_go.new.turn
-    (goes-at service (r.holds site) (r.stands site) (λ m. HangUp place.Client (end_timer service 0 timer.Body (end_timer service 0 timer.Send m))) stage.Busy _ _ _ _ c.in_ok-let_client_go.ensures.moves c.requires))))
+    (has-run v c.let_client_go.new.self c.let_client_go.new.turn
+    (goes-at v (λ m. HangUp place.Client (end_timer (service v) 0 timer.Body (end_timer (service v) 0 timer.Send m))) stage.Busy _ _ _ _ c.in_ok-let_client_go.ensures.moves c.requires.within))))
 
 pub returns-else-self-clause-falls : goal.returns-else-self-clause-falls
 returns-else-self-clause-falls g c there =

@@ -5,14 +5,14 @@ use Rattle.client_line.specs.Lines.{IsFed, done}
 use Rattle.strand_contract.proofs.Results.{if-ok}
 use Rattle.connection_strand.specs.Kept.{kept}
 use Rattle.connection_strand.proofs.Nexts.{nexts, fed-answered}
-use Rattle.connection_plan.specs.Serving.{service_of}
+use Rattle.connection_strand.specs.Views.{view_of, service}
 use Rattle.connection_strand.proofs.Reading.{next-pays}
 use Rattle.connection_strand.proofs.state.Connection.next.Goals as goal
 
 pub returns-in_default-clause-moves : goal.returns-in_default-clause-moves
 returns-in_default-clause-moves g c =
     let site = c.args.site.now in
-    let r = g.R.RunContract in
+    let v = view_of (g.R.RunContract.meaning site) (g.R.ServiceContract.serving site) in
     let met = g.met.R.RunContract in
     let old = c.args.self.now.client in
     let new = c.fed.new.self.came in
@@ -21,7 +21,7 @@ returns-in_default-clause-moves g c =
     (c.fed.ensures.led c.in_default.not-Memory) in
     if-ok c.heard.result _ _ c.heard.ensures.moves (λ on hears st free did m h.
     hears (fed-answered (done old.line.came) new [] c.fed.result fed-is) st free did m
-    (nexts (service_of (r.plan site) (g.R.ServiceContract.serving site)) (r.holds site) (r.stands site) (met.meets site) (met.apart site)
+    (nexts v (met.meets site) (met.apart site)
     c.args.now.0 c.fed.result st did c.args.self.now _ c.args.turn.now m (record { run = refl; waits = refl; sockets = refl; count = refl; keeping = refl; taking = refl }) fed-is
     (ap (λ (q : Sending). record (kept old) { came = new; sending = q }) (c.fed.ensures.sending ∙ ap (λ (l : Line). l.sending) c.done.ensures)) h))
 

@@ -4,7 +4,7 @@ use Rattle.strand_plans.specs.Ledgers.{is_place}
 use Rattle.connection_strand.specs.Kept.{Kept}
 use Rattle.strand_plans.specs.Moves.{Done}
 use Rattle.connection_strand.specs.Standing.{plain}
-use Rattle.connection_plan.specs.Serving.{service_of}
+use Rattle.connection_strand.specs.Views.{view_of, service}
 use Rattle.connection_strand.proofs.Ends.{ok-map, done-came}
 use Rattle.connection_strand.proofs.Showing.{shown-later}
 use Rattle.connection_strand.proofs.Falling.{later-falls}
@@ -13,14 +13,13 @@ use Rattle.connection_strand.proofs.state.Connection.put_off.Goals as goal
 pub returns-clause-moves : goal.returns-clause-moves
 returns-clause-moves g c =
     let site = c.args.site.now in
-    let r = g.R.RunContract in
+    let v = view_of (g.R.RunContract.meaning site) (g.R.ServiceContract.serving site) in
     let met = g.met.R.RunContract in
-    let service = service_of (r.plan site) (g.R.ServiceContract.serving site) in
     let now = c.args.now.0 in
     ok-map c.begin_timer.result _ _ (λ done goes. λ did h.
-    done-came (r.plan site) (r.holds site) (r.stands site) h.inner.client.stage did c.begin_timer.new.self c.begin_timer.new.turn
+    done-came v h.inner.client.stage did c.begin_timer.new.self c.begin_timer.new.turn
     (goes (plain h.inner.client.stage) did Done
-    (shown-later service (r.holds site) (r.stands site) (met.meets site) (met.apart site) now did c.args.self.now _ c.args.turn.now h (record { run = refl; waits = refl; sockets = refl; count = refl; keeping = refl; taking = refl }) refl))) c.begin_timer.ensures.moves
+    (shown-later v (met.meets site) (met.apart site) now did c.args.self.now _ c.args.turn.now h (record { run = refl; waits = refl; sockets = refl; count = refl; keeping = refl; taking = refl }) refl))) c.begin_timer.ensures.moves
 
 pub returns-clause-falls : goal.returns-clause-falls
 returns-clause-falls g c =

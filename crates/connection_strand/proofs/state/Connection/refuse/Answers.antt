@@ -4,7 +4,7 @@ use Rattle.client_line.specs.Records as line
 use Rattle.connection_plan.specs.Turns.{refuse, finish}
 use Rattle.connection_strand.specs.Standing.{plain}
 use Rattle.connection_strand.proofs.Hearing.{refuses-head, refuses-body, not-begun}
-use Rattle.connection_plan.specs.Serving.{service_of}
+use Rattle.connection_strand.specs.Views.{view_of, service}
 use Rattle.connection_plan.specs.Clients.{is_last}
 use Rattle.connection_strand.specs.Kept.{reply_of}
 use Rattle.connection_strand.proofs.Costing.{costs-after}
@@ -13,21 +13,20 @@ use Rattle.connection_strand.proofs.state.Connection.refuse.Goals as goal
 pub returns-in-Begun-clause-moves : goal.returns-in-Begun-clause-moves
 returns-in-Begun-clause-moves g c =
     let site = c.args.site.now in
-    let r = g.R.RunContract in
+    let v = view_of (g.R.RunContract.meaning site) (g.R.ServiceContract.serving site) in
     let met = g.met.R.RunContract in
-    let service = service_of (r.plan site) (g.R.ServiceContract.serving site) in
     if-ok c.refuse_head.result _ _ c.refuse_head.ensures.moves (λ ends refuses at st free did m h. refuses st free did m
-    (c.in_ok-end_timer.ensures.moves (plain st) did (refuse service c.args.now.0 (line.Over c.args.code) c.args.code)
-    (refuses-head (service_of (r.plan site) (g.R.ServiceContract.serving site)) (r.holds site) (r.stands site) c.args.now.0 c.args.code (plain st) did c.args.self.now c.args.turn.now c.held-held.result at c.held-held.ensures c.in-Begun.is h)))
+    (c.in_ok-end_timer.ensures.moves (plain st) did (refuse (service v) c.args.now.0 (line.Over c.args.code) c.args.code)
+    (refuses-head v c.args.now.0 c.args.code (plain st) did c.args.self.now c.args.turn.now c.held-held.result at c.held-held.ensures c.in-Begun.is h)))
 
 pub returns-in-Request-clause-moves : goal.returns-in-Request-clause-moves
 returns-in-Request-clause-moves g c =
     let site = c.args.site.now in
-    let r = g.R.RunContract in
+    let v = view_of (g.R.RunContract.meaning site) (g.R.ServiceContract.serving site) in
     let met = g.met.R.RunContract in
     if-ok c.finish.result _ _ c.finish.ensures.moves (λ done ends at st free did m h. ends st did
     (c.in_ok-end_timer.ensures.moves (plain st) did finish
-    (refuses-body (service_of (r.plan site) (g.R.ServiceContract.serving site)) (r.holds site) (r.stands site) c.args.now.0 c.args.code (plain st) did c.args.self.now c.args.turn.now c.held-held.result at c.held-held.ensures (not-begun (service_of (r.plan site) (g.R.ServiceContract.serving site)) (r.holds site) (r.stands site) c.held-held.result c.in-Request.is) h)))
+    (refuses-body v c.args.now.0 c.args.code (plain st) did c.args.self.now c.args.turn.now c.held-held.result at c.held-held.ensures (not-begun v c.held-held.result c.in-Request.is) h)))
 
 pub returns-in-Begun-clause-costs : goal.returns-in-Begun-clause-costs
 returns-in-Begun-clause-costs g c last =

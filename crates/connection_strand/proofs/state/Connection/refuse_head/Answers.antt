@@ -4,9 +4,9 @@ use Rattle.connection_plan.specs.Clients as stage
 use Rattle.connection_plan.specs.Turns.{close_if_taken}
 use Rattle.connection_strand.specs.Kept.{kept}
 use Rattle.connection_strand.specs.Standing.{plain}
-use Rattle.connection_strand.proofs.Losing.{done}
+use Rattle.connection_strand.proofs.Ends.{done-came}
 use Rattle.connection_strand.proofs.Hearing.{refuses-now, closes}
-use Rattle.connection_plan.specs.Serving.{service_of}
+use Rattle.connection_strand.specs.Views.{view_of, service}
 use Rattle.connection_plan.specs.Serving.{times}
 use Rattle.connection_strand.specs.declared.client.Stage.TheVariants as code
 use Rattle.connection_strand.specs.declared.client.Reply.TheVariants as replies
@@ -17,25 +17,23 @@ use Rattle.connection_strand.proofs.state.Connection.refuse_head.Goals as goal
 pub returns-then-is_all_taken-clause-moves : goal.returns-then-is_all_taken-clause-moves
 returns-then-is_all_taken-clause-moves g c =
     let site = c.args.site.now in
-    let r = g.R.RunContract in
+    let v = view_of (g.R.RunContract.meaning site) (g.R.ServiceContract.serving site) in
     let met = g.met.R.RunContract in
     if-ok c.finish.result _ _ c.finish.ensures.moves (λ over ends st free did m h.
-    let service = service_of (r.plan site) (g.R.ServiceContract.serving site) in
-    ends stage.Flush did (closes (service_of (r.plan site) (g.R.ServiceContract.serving site)) (r.holds site) (r.stands site) c.args.now.0 (plain stage.Flush) did c.send_refusal.new.self c.send_refusal.new.turn true (sym c.is_all_taken.ensures ∙ c.if-is_all_taken.true)
-    (c.in_ok-send_refusal.ensures.moves (plain stage.Flush) did (close_if_taken service c.args.now.0)
-    (refuses-now (service_of (r.plan site) (g.R.ServiceContract.serving site)) (r.holds site) (r.stands site) c.args.now.0 c.args.code st did c.args.self.now _ c.args.turn.now (service.refusal c.args.code c.args.now.0) free (record { run = refl; waits = refl; sockets = refl; count = refl; keeping = refl; taking = refl })
+    ends stage.Flush did (closes v c.args.now.0 (plain stage.Flush) did c.send_refusal.new.self c.send_refusal.new.turn true (sym c.is_all_taken.ensures ∙ c.if-is_all_taken.true)
+    (c.in_ok-send_refusal.ensures.moves (plain stage.Flush) did (close_if_taken (service v) c.args.now.0)
+    (refuses-now v c.args.now.0 c.args.code st did c.args.self.now _ c.args.turn.now (v.serving.refusal c.args.code c.args.now.0) free (record { run = refl; waits = refl; sockets = refl; count = refl; keeping = refl; taking = refl })
     (ap (λ t. record (kept c.args.self.now.client) { stage = stage.Flush; times = t; reply = stage.Whole true }) c.default_times-self.ensures) refl h))))
 
 pub returns-clause-moves : goal.returns-clause-moves
 returns-clause-moves g c = λ st free did m h.
     let site = c.args.site.now in
-    let r = g.R.RunContract in
+    let v = view_of (g.R.RunContract.meaning site) (g.R.ServiceContract.serving site) in
     let met = g.met.R.RunContract in
-    let service = service_of (r.plan site) (g.R.ServiceContract.serving site) in
-    done (service_of (r.plan site) (g.R.ServiceContract.serving site)) (r.holds site) (r.stands site) stage.Flush did c.send_refusal.new.self c.send_refusal.new.turn
-    (closes (service_of (r.plan site) (g.R.ServiceContract.serving site)) (r.holds site) (r.stands site) c.args.now.0 (plain stage.Flush) did c.send_refusal.new.self c.send_refusal.new.turn false (sym c.is_all_taken.ensures ∙ c.if-is_all_taken.false)
-    (c.in_ok-send_refusal.ensures.moves (plain stage.Flush) did (close_if_taken service c.args.now.0)
-    (refuses-now (service_of (r.plan site) (g.R.ServiceContract.serving site)) (r.holds site) (r.stands site) c.args.now.0 c.args.code st did c.args.self.now _ c.args.turn.now (service.refusal c.args.code c.args.now.0) free (record { run = refl; waits = refl; sockets = refl; count = refl; keeping = refl; taking = refl })
+    done-came v stage.Flush did c.send_refusal.new.self c.send_refusal.new.turn
+    (closes v c.args.now.0 (plain stage.Flush) did c.send_refusal.new.self c.send_refusal.new.turn false (sym c.is_all_taken.ensures ∙ c.if-is_all_taken.false)
+    (c.in_ok-send_refusal.ensures.moves (plain stage.Flush) did (close_if_taken (service v) c.args.now.0)
+    (refuses-now v c.args.now.0 c.args.code st did c.args.self.now _ c.args.turn.now (v.serving.refusal c.args.code c.args.now.0) free (record { run = refl; waits = refl; sockets = refl; count = refl; keeping = refl; taking = refl })
     (ap (λ t. record (kept c.args.self.now.client) { stage = stage.Flush; times = t; reply = stage.Whole true }) c.default_times-self.ensures) refl h)))
 
 pub returns-then-is_all_taken-clause-costs : goal.returns-then-is_all_taken-clause-costs

@@ -2,7 +2,7 @@ use Rattle.std.proofs.Common.{[], refl}
 use Rattle.strand_contract.specs.declared.turns.Place.TheVariants as place
 use Rattle.strand_plans.specs.Moves.{Done, Send}
 use Rattle.connection_strand.specs.Standing.{plain}
-use Rattle.connection_plan.specs.Serving.{service_of}
+use Rattle.connection_strand.specs.Views.{view_of, service}
 use Rattle.connection_strand.proofs.Ends.{ok-map, done-came}
 use Rattle.connection_strand.proofs.Showing.{shown-ready}
 use Rattle.connection_strand.proofs.state.Connection.resume.Goals as goal
@@ -10,11 +10,10 @@ use Rattle.connection_strand.proofs.state.Connection.resume.Goals as goal
 pub returns : goal.returns
 returns g c =
     let site = c.args.site.now in
-    let r = g.R.RunContract in
+    let v = view_of (g.R.RunContract.meaning site) (g.R.ServiceContract.serving site) in
     let met = g.met.R.RunContract in
-    let service = service_of (r.plan site) (g.R.ServiceContract.serving site) in
     let now = c.args._now.0 in
     ok-map c.ask_for_offer.result _ _ (λ done goes. λ did h.
-    done-came (r.plan site) (r.holds site) (r.stands site) h.inner.client.stage did c.ask_for_offer.new.self c.ask_for_offer.new.turn
+    done-came v h.inner.client.stage did c.ask_for_offer.new.self c.ask_for_offer.new.turn
     (goes (plain h.inner.client.stage) did Done (c.in_ok-end_timer.ensures.moves (plain h.inner.client.stage) did (Send place.Client [] Done)
-    (shown-ready service (r.holds site) (r.stands site) (met.meets site) (met.apart site) now did c.args.self.now _ c.args.turn.now h (record { run = refl; waits = refl; sockets = refl; count = refl; keeping = refl; taking = refl }) refl)))) c.ask_for_offer.ensures.moves
+    (shown-ready v (met.meets site) (met.apart site) now did c.args.self.now _ c.args.turn.now h (record { run = refl; waits = refl; sockets = refl; count = refl; keeping = refl; taking = refl }) refl)))) c.ask_for_offer.ensures.moves

@@ -1,7 +1,7 @@
 use Rattle.std.proofs.Common.{◌≡◌, true, false, refl, sym, ap, ◌∙◌, subst}
 use Rattle.strand_contract.specs.declared.turns.Seen.{Seen}
 use Rattle.strand_contract.specs.Calls.{is_own_turn}
-use Rattle.connection_plan.specs.Serving.{service_of}
+use Rattle.connection_strand.specs.Views.{view_of, service}
 use Rattle.connection_strand.specs.Shown.{Shown, seen_of}
 use Rattle.connection_strand.proofs.Ends.{ok-map}
 use Rattle.connection_strand.proofs.Falling.{own-sock}
@@ -11,20 +11,18 @@ use Rattle.connection_strand.proofs.state.Connection.see.Goals as goal
 pub sock-requires : goal.sock-requires
 sock-requires g c =
     let site = c.args.site.now in
-    let r = g.R.RunContract in
+    let v = view_of (g.R.RunContract.meaning site) (g.R.ServiceContract.serving site) in
     let met = g.met.R.RunContract in
-    let service = service_of (r.plan site) (g.R.ServiceContract.serving site) in
     let now = c.args.now.0 in
-    (c.requires.0, (subst (λ (s : Seen). Shown service (r.holds site) (r.stands site) now s c.requires.0 c.args.self.now c.args.turn.now) (c.sight_of.ensures ∙ ap seen_of c.in-Sock.is) c.requires.1))
+    (c.requires.0, (subst (λ (s : Seen). Shown v now s c.requires.0 c.args.self.now c.args.turn.now) (c.sight_of.ensures ∙ ap seen_of c.in-Sock.is) c.requires.1))
 
 pub returns-in-Sock-clause-moves : goal.returns-in-Sock-clause-moves
 returns-in-Sock-clause-moves g c =
     let site = c.args.site.now in
-    let r = g.R.RunContract in
+    let v = view_of (g.R.RunContract.meaning site) (g.R.ServiceContract.serving site) in
     let met = g.met.R.RunContract in
-    let service = service_of (r.plan site) (g.R.ServiceContract.serving site) in
     let now = c.args.now.0 in
-    ok-map c.sock.result _ _ (λ done goes. λ did h. goes did (subst (λ (s : Seen). Shown service (r.holds site) (r.stands site) now s did c.args.self.now c.args.turn.now) (c.sight_of.ensures ∙ ap seen_of c.in-Sock.is) h)) c.sock.ensures.moves
+    ok-map c.sock.result _ _ (λ done goes. λ did h. goes did (subst (λ (s : Seen). Shown v now s did c.args.self.now c.args.turn.now) (c.sight_of.ensures ∙ ap seen_of c.in-Sock.is) h)) c.sock.ensures.moves
 
 pub returns-in-Sock-clause-falls : goal.returns-in-Sock-clause-falls
 returns-in-Sock-clause-falls g c own = c.sock.ensures.falls (sym (own-sock c.in-Sock.k c.in-Sock.shown) ∙ sym (ap is_own_turn (c.sight_of.ensures ∙ ap seen_of c.in-Sock.is)) ∙ own)
@@ -32,25 +30,23 @@ returns-in-Sock-clause-falls g c own = c.sock.ensures.falls (sym (own-sock c.in-
 pub take_bytes-requires : goal.take_bytes-requires
 take_bytes-requires g c =
     let site = c.args.site.now in
-    let r = g.R.RunContract in
+    let v = view_of (g.R.RunContract.meaning site) (g.R.ServiceContract.serving site) in
     let met = g.met.R.RunContract in
-    let service = service_of (r.plan site) (g.R.ServiceContract.serving site) in
     let now = c.args.now.0 in
-    let h = (subst (λ (s : Seen). Shown service (r.holds site) (r.stands site) now s c.requires.0 c.args.self.now c.args.turn.now) (c.sight_of.ensures ∙ ap seen_of c.in-Bytes.is) c.requires.1) in
-    let t = shown-bytes service (r.holds site) (r.stands site) (met.meets site) (met.apart site) now c.in-Bytes.bytes c.requires.0 c.args.self.now c.args.turn.now h in
+    let h = (subst (λ (s : Seen). Shown v now s c.requires.0 c.args.self.now c.args.turn.now) (c.sight_of.ensures ∙ ap seen_of c.in-Bytes.is) c.requires.1) in
+    let t = shown-bytes v (met.meets site) (met.apart site) now c.in-Bytes.bytes c.requires.0 c.args.self.now c.args.turn.now h in
     (h.inner.client.stage, (t.ledger, t.inner, t.within))
 
 pub returns-in-Bytes-clause-moves : goal.returns-in-Bytes-clause-moves
 returns-in-Bytes-clause-moves g c =
     let site = c.args.site.now in
-    let r = g.R.RunContract in
+    let v = view_of (g.R.RunContract.meaning site) (g.R.ServiceContract.serving site) in
     let met = g.met.R.RunContract in
-    let service = service_of (r.plan site) (g.R.ServiceContract.serving site) in
     let now = c.args.now.0 in
     ok-map c.take_bytes.result _ _ (λ done ends. λ did h.
-    let k = (subst (λ (s : Seen). Shown service (r.holds site) (r.stands site) now s did c.args.self.now c.args.turn.now) (c.sight_of.ensures ∙ ap seen_of c.in-Bytes.is) h) in
+    let k = (subst (λ (s : Seen). Shown v now s did c.args.self.now c.args.turn.now) (c.sight_of.ensures ∙ ap seen_of c.in-Bytes.is) h) in
     ends k.inner.client.stage did
-    (shown-bytes service (r.holds site) (r.stands site) (met.meets site) (met.apart site) now c.in-Bytes.bytes did c.args.self.now c.args.turn.now k)) c.take_bytes.ensures
+    (shown-bytes v (met.meets site) (met.apart site) now c.in-Bytes.bytes did c.args.self.now c.args.turn.now k)) c.take_bytes.ensures
 
 pub returns-in-Bytes-clause-falls : goal.returns-in-Bytes-clause-falls
 returns-in-Bytes-clause-falls g c own = absurd (let e : false ≡ true = sym (ap is_own_turn (c.sight_of.ensures ∙ ap seen_of c.in-Bytes.is)) ∙ own in cc)
@@ -58,20 +54,18 @@ returns-in-Bytes-clause-falls g c own = absurd (let e : false ≡ true = sym (ap
 pub see_taking-requires : goal.see_taking-requires
 see_taking-requires g c =
     let site = c.args.site.now in
-    let r = g.R.RunContract in
+    let v = view_of (g.R.RunContract.meaning site) (g.R.ServiceContract.serving site) in
     let met = g.met.R.RunContract in
-    let service = service_of (r.plan site) (g.R.ServiceContract.serving site) in
     let now = c.args.now.0 in
-    (c.requires.0, (subst (λ (s : Seen). Shown service (r.holds site) (r.stands site) now s c.requires.0 c.args.self.now c.args.turn.now) (c.sight_of.ensures ∙ ap seen_of c.in-Taking.is) c.requires.1))
+    (c.requires.0, (subst (λ (s : Seen). Shown v now s c.requires.0 c.args.self.now c.args.turn.now) (c.sight_of.ensures ∙ ap seen_of c.in-Taking.is) c.requires.1))
 
 pub returns-in-Taking-clause-moves : goal.returns-in-Taking-clause-moves
 returns-in-Taking-clause-moves g c =
     let site = c.args.site.now in
-    let r = g.R.RunContract in
+    let v = view_of (g.R.RunContract.meaning site) (g.R.ServiceContract.serving site) in
     let met = g.met.R.RunContract in
-    let service = service_of (r.plan site) (g.R.ServiceContract.serving site) in
     let now = c.args.now.0 in
-    ok-map c.see_taking.result _ _ (λ done goes. λ did h. goes did (subst (λ (s : Seen). Shown service (r.holds site) (r.stands site) now s did c.args.self.now c.args.turn.now) (c.sight_of.ensures ∙ ap seen_of c.in-Taking.is) h)) c.see_taking.ensures.moves
+    ok-map c.see_taking.result _ _ (λ done goes. λ did h. goes did (subst (λ (s : Seen). Shown v now s did c.args.self.now c.args.turn.now) (c.sight_of.ensures ∙ ap seen_of c.in-Taking.is) h)) c.see_taking.ensures.moves
 
 pub returns-in-Taking-clause-falls : goal.returns-in-Taking-clause-falls
 returns-in-Taking-clause-falls g c own = c.see_taking.ensures.falls (sym (ap is_own_turn (c.sight_of.ensures ∙ ap seen_of c.in-Taking.is)) ∙ own)
@@ -79,20 +73,18 @@ returns-in-Taking-clause-falls g c own = c.see_taking.ensures.falls (sym (ap is_
 pub see_event-requires : goal.see_event-requires
 see_event-requires g c =
     let site = c.args.site.now in
-    let r = g.R.RunContract in
+    let v = view_of (g.R.RunContract.meaning site) (g.R.ServiceContract.serving site) in
     let met = g.met.R.RunContract in
-    let service = service_of (r.plan site) (g.R.ServiceContract.serving site) in
     let now = c.args.now.0 in
-    (c.requires.0, (subst (λ (s : Seen). Shown service (r.holds site) (r.stands site) now s c.requires.0 c.args.self.now c.args.turn.now) (c.sight_of.ensures ∙ ap seen_of c.in-Event.is) c.requires.1))
+    (c.requires.0, (subst (λ (s : Seen). Shown v now s c.requires.0 c.args.self.now c.args.turn.now) (c.sight_of.ensures ∙ ap seen_of c.in-Event.is) c.requires.1))
 
 pub returns-in-Event-clause-moves : goal.returns-in-Event-clause-moves
 returns-in-Event-clause-moves g c =
     let site = c.args.site.now in
-    let r = g.R.RunContract in
+    let v = view_of (g.R.RunContract.meaning site) (g.R.ServiceContract.serving site) in
     let met = g.met.R.RunContract in
-    let service = service_of (r.plan site) (g.R.ServiceContract.serving site) in
     let now = c.args.now.0 in
-    ok-map c.see_event.result _ _ (λ done goes. λ did h. goes did (subst (λ (s : Seen). Shown service (r.holds site) (r.stands site) now s did c.args.self.now c.args.turn.now) (c.sight_of.ensures ∙ ap seen_of c.in-Event.is) h)) c.see_event.ensures.moves
+    ok-map c.see_event.result _ _ (λ done goes. λ did h. goes did (subst (λ (s : Seen). Shown v now s did c.args.self.now c.args.turn.now) (c.sight_of.ensures ∙ ap seen_of c.in-Event.is) h)) c.see_event.ensures.moves
 
 pub returns-in-Event-clause-falls : goal.returns-in-Event-clause-falls
 returns-in-Event-clause-falls g c own = c.see_event.ensures.falls (sym (ap is_own_turn (c.sight_of.ensures ∙ ap seen_of c.in-Event.is)) ∙ own)

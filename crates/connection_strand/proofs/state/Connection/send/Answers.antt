@@ -3,7 +3,7 @@ use Rattle.client_line.specs.Records.{Connection as Line}
 use Rattle.connection_strand.specs.Kept.{kept}
 use Rattle.connection_strand.proofs.Ends.{ok-map}
 use Rattle.connection_strand.proofs.Offering.{queues-more, queues-not}
-use Rattle.connection_plan.specs.Serving.{service_of}
+use Rattle.connection_strand.specs.Views.{view_of, service}
 use Rattle.connection_strand.proofs.Costing.{queues-costs, spends-none}
 use Rattle.std.proofs.Common.{length, ◌*◌, ◌+◌}
 use Rattle.connection_strand.proofs.state.Connection.send.Goals as goal
@@ -11,18 +11,18 @@ use Rattle.connection_strand.proofs.state.Connection.send.Goals as goal
 pub returns-clause-moves : goal.returns-clause-moves
 returns-clause-moves g c =
     let site = c.args.site.now in
-    let r = g.R.RunContract in
+    let v = view_of (g.R.RunContract.meaning site) (g.R.ServiceContract.serving site) in
     let met = g.met.R.RunContract in
-    ok-map c.ask_for_offer.result _ _ (λ done goes. λ e did m h. goes e did m (queues-more (service_of (r.plan site) (g.R.ServiceContract.serving site)) (r.holds site) (r.stands site) (met.meets site) (met.apart site)
+    ok-map c.ask_for_offer.result _ _ (λ done goes. λ e did m h. goes e did m (queues-more v (met.meets site) (met.apart site)
     e did c.args.self.now _ c.args.turn.now c.args.bytes.now m (record { run = refl; waits = refl; sockets = refl; count = refl; keeping = refl; taking = refl }) c.if-not-self.false
     (ap (λ (l : Line). kept (record c.args.self.now.client { line = l })) c.in_ok-queue.ensures.done) h)) c.ask_for_offer.ensures.moves
 
 pub returns-then-not-self-clause-moves : goal.returns-then-not-self-clause-moves
 returns-then-not-self-clause-moves g c = λ e did m h.
     let site = c.args.site.now in
-    let r = g.R.RunContract in
+    let v = view_of (g.R.RunContract.meaning site) (g.R.ServiceContract.serving site) in
     let met = g.met.R.RunContract in
-    queues-not (service_of (r.plan site) (g.R.ServiceContract.serving site)) (r.holds site) (r.stands site) (met.meets site) (met.apart site)
+    queues-not v (met.meets site) (met.apart site)
     e did c.args.self.now c.args.turn.now c.args.bytes.now m c.if-not-self.true h
 
 pub returns-clause-costs : goal.returns-clause-costs

@@ -1,6 +1,6 @@
 use Rattle.std.proofs.Common.{length, ◌+◌, ◌*◌, sym, subst, arith}
 use Rattle.connection_plan.specs.Turns.{send}
-use Rattle.connection_plan.specs.Serving.{service_of}
+use Rattle.connection_strand.specs.Views.{view_of, service}
 use Rattle.connection_strand.specs.Costs.{unit}
 use Rattle.connection_strand.proofs.Ends.{ok-map}
 use Rattle.connection_strand.proofs.Losing.{To}
@@ -10,10 +10,9 @@ use Rattle.connection_strand.proofs.state.Connection.send_refusal.Goals as goal
 pub returns-clause-moves : goal.returns-clause-moves
 returns-clause-moves g c =
     let site = c.args.site.now in
-    let r = g.R.RunContract in
-    let service = service_of (r.plan site) (g.R.ServiceContract.serving site) in
+    let v = view_of (g.R.RunContract.meaning site) (g.R.ServiceContract.serving site) in
     ok-map c.send.result _ _ (λ done goes. λ e did m h. goes e did m
-    (subst (λ bytes. To service (r.holds site) (r.stands site) e did c.args.self.now c.args.turn.now (send service 0 bytes m)) (sym c.in_ok-reply.ensures) h)) c.send.ensures.moves
+    (subst (λ bytes. To v e did c.args.self.now c.args.turn.now (send (service v) 0 bytes m)) (sym c.in_ok-reply.ensures) h)) c.send.ensures.moves
 
 pub returns-clause-costs : goal.returns-clause-costs
 returns-clause-costs g c =

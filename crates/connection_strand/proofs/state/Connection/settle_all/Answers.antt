@@ -1,5 +1,5 @@
 use Rattle.std.proofs.Common.{◌<◌, sym, subst}
-use Rattle.connection_plan.specs.Serving.{service_of}
+use Rattle.connection_strand.specs.Views.{view_of, service}
 use Rattle.connection_strand.proofs.Costing.{spends-nothing}
 use Rattle.connection_strand.proofs.Loops.{IsSettling, Spent, rounds, begins, goes-on, settled, spends-on, fewer}
 use Rattle.connection_strand.proofs.state.Connection.settle_all.Goals as goal
@@ -10,17 +10,15 @@ settle_once-requires g c = c.loop-goes_on.invariant.0.within c.loop-goes_on-test
 pub loop-goes_on-init : goal.loop-goes_on-init
 loop-goes_on-init g c =
     let site = c.args.site.now in
-    let r = g.R.RunContract in
-    let service = service_of (r.plan site) (g.R.ServiceContract.serving site) in
-    (begins service (r.holds site) (r.stands site) c.args.now.0 c.args.self.now c.args.turn.now c.requires, spends-nothing g.R.RunContract.left g.R.ServiceContract.bound c.args.self.now c.args.turn.now)
+    let v = view_of (g.R.RunContract.meaning site) (g.R.ServiceContract.serving site) in
+    (begins v c.args.now.0 c.args.self.now c.args.turn.now c.requires, spends-nothing g.R.RunContract.left g.R.ServiceContract.bound c.args.self.now c.args.turn.now)
 
 pub loop-goes_on-preserved : goal.loop-goes_on-preserved
 loop-goes_on-preserved g c =
     let site = c.args.site.now in
-    let r = g.R.RunContract in
-    let service = service_of (r.plan site) (g.R.ServiceContract.serving site) in (
-      goes-on service (r.holds site) (r.stands site) c.args.now.0 c.in_ok-goes_on.goes_on c.args.self.now c.args.turn.now c.loop-goes_on.self c.loop-goes_on.turn c.settle_once.new.self c.settle_once.new.turn
-          (subst (λ o. IsSettling service (r.holds site) (r.stands site) c.args.now.0 o c.args.self.now c.args.turn.now c.loop-goes_on.self c.loop-goes_on.turn) c.loop-goes_on-test.true c.loop-goes_on.invariant.0) c.in_ok-goes_on.ensures.moves,
+    let v = view_of (g.R.RunContract.meaning site) (g.R.ServiceContract.serving site) in (
+      goes-on v c.args.now.0 c.in_ok-goes_on.goes_on c.args.self.now c.args.turn.now c.loop-goes_on.self c.loop-goes_on.turn c.settle_once.new.self c.settle_once.new.turn
+          (subst (λ o. IsSettling v c.args.now.0 o c.args.self.now c.args.turn.now c.loop-goes_on.self c.loop-goes_on.turn) c.loop-goes_on-test.true c.loop-goes_on.invariant.0) c.in_ok-goes_on.ensures.moves,
       spends-on g.R.RunContract.left g.R.ServiceContract.bound c.in_ok-goes_on.goes_on c.args.self.now c.args.turn.now c.loop-goes_on.self c.loop-goes_on.turn c.settle_once.new.self c.settle_once.new.turn
           (subst (λ o. Spent g.R.RunContract.left g.R.ServiceContract.bound o c.args.self.now c.args.turn.now c.loop-goes_on.self c.loop-goes_on.turn) c.loop-goes_on-test.true c.loop-goes_on.invariant.1) c.in_ok-goes_on.ensures.costs,
     )
@@ -33,10 +31,9 @@ loop-goes_on-smaller g c =
 pub returns-clause-moves : goal.returns-clause-moves
 returns-clause-moves g c = λ st did h.
     let site = c.args.site.now in
-    let r = g.R.RunContract in
-    let service = service_of (r.plan site) (g.R.ServiceContract.serving site) in
-    settled service (r.holds site) (r.stands site) c.args.now.0 c.args.self.now c.args.turn.now c.loop-goes_on.self c.loop-goes_on.turn st did
-    (subst (λ o. IsSettling service (r.holds site) (r.stands site) c.args.now.0 o c.args.self.now c.args.turn.now c.loop-goes_on.self c.loop-goes_on.turn) c.loop-goes_on-test.false c.loop-goes_on.invariant.0) h
+    let v = view_of (g.R.RunContract.meaning site) (g.R.ServiceContract.serving site) in
+    settled v c.args.now.0 c.args.self.now c.args.turn.now c.loop-goes_on.self c.loop-goes_on.turn st did
+    (subst (λ o. IsSettling v c.args.now.0 o c.args.self.now c.args.turn.now c.loop-goes_on.self c.loop-goes_on.turn) c.loop-goes_on-test.false c.loop-goes_on.invariant.0) h
 
 pub returns-clause-costs : goal.returns-clause-costs
 returns-clause-costs g c = subst (λ o. Spent g.R.RunContract.left g.R.ServiceContract.bound o c.args.self.now c.args.turn.now c.loop-goes_on.self c.loop-goes_on.turn) c.loop-goes_on-test.false c.loop-goes_on.invariant.1

@@ -1,6 +1,6 @@
 use Rattle.connection_plan.specs.Clients as stage
 use Rattle.connection_plan.specs.Turns.{settle}
-use Rattle.connection_plan.specs.Serving.{service_of}
+use Rattle.connection_strand.specs.Views.{view_of, service}
 use Rattle.connection_strand.proofs.Ends.{ok-map, done-came}
 use Rattle.connection_strand.proofs.Costing.{settles-nothing}
 use Rattle.connection_strand.proofs.Facing.{busy-at, stage-is}
@@ -10,41 +10,38 @@ use Rattle.connection_strand.proofs.state.Connection.settle_once.Goals as goal
 pub busy-requires : goal.busy-requires
 busy-requires g c =
     let site = c.args.site.now in
-    let r = g.R.RunContract in
+    let v = view_of (g.R.RunContract.meaning site) (g.R.ServiceContract.serving site) in
     let met = g.met.R.RunContract in
-    is-busy (service_of (r.plan site) (g.R.ServiceContract.serving site)) (r.holds site) (r.stands site) (met.meets site) (met.apart site)
+    is-busy v (met.meets site) (met.apart site)
     c.args.self.now c.args.turn.now c.requires.0 c.requires.1 c.in-Busy.is
 
 pub returns-in-Busy-clause-moves : goal.returns-in-Busy-clause-moves
 returns-in-Busy-clause-moves g c =
     let site = c.args.site.now in
-    let r = g.R.RunContract in
+    let v = view_of (g.R.RunContract.meaning site) (g.R.ServiceContract.serving site) in
     let met = g.met.R.RunContract in
-    let service = service_of (r.plan site) (g.R.ServiceContract.serving site) in
-    ok-map c.busy.result _ _ (λ on goes. λ st did h. goes did (settle service c.args.now.0)
-    (settles-busy service (r.holds site) (r.stands site) (met.meets site) (met.apart site) c.args.now.0 did c.args.self.now c.args.turn.now
-    (busy-at service (r.holds site) (r.stands site) (met.meets site) (met.apart site) st did c.args.self.now c.args.turn.now (settle service c.args.now.0) c.in-Busy.is h))) c.busy.ensures.moves
+    ok-map c.busy.result _ _ (λ on goes. λ st did h. goes did (settle (service v) c.args.now.0)
+    (settles-busy v (met.meets site) (met.apart site) c.args.now.0 did c.args.self.now c.args.turn.now
+    (busy-at v (met.meets site) (met.apart site) st did c.args.self.now c.args.turn.now (settle (service v) c.args.now.0) c.in-Busy.is h))) c.busy.ensures.moves
 
 pub returns-in-Flush-clause-moves : goal.returns-in-Flush-clause-moves
 returns-in-Flush-clause-moves g c =
     let site = c.args.site.now in
-    let r = g.R.RunContract in
+    let v = view_of (g.R.RunContract.meaning site) (g.R.ServiceContract.serving site) in
     let met = g.met.R.RunContract in
-    let service = service_of (r.plan site) (g.R.ServiceContract.serving site) in
-    ok-map c.flush.result _ _ (λ on goes. λ st did h. goes stage.Flush tt did (settle service c.args.now.0)
-    (settles-flush service (r.holds site) (r.stands site) (met.meets site) (met.apart site) c.args.now.0 did c.args.self.now c.args.turn.now
-    (flush-at service (r.holds site) (r.stands site) (met.meets site) (met.apart site) st did c.args.self.now c.args.turn.now (settle service c.args.now.0) c.in-Flush.is h))) c.flush.ensures.moves
+    ok-map c.flush.result _ _ (λ on goes. λ st did h. goes stage.Flush tt did (settle (service v) c.args.now.0)
+    (settles-flush v (met.meets site) (met.apart site) c.args.now.0 did c.args.self.now c.args.turn.now
+    (flush-at v (met.meets site) (met.apart site) st did c.args.self.now c.args.turn.now (settle (service v) c.args.now.0) c.in-Flush.is h))) c.flush.ensures.moves
 
 pub returns-in-Idle-clause-moves : goal.returns-in-Idle-clause-moves
 returns-in-Idle-clause-moves g c = λ st did h.
     let site = c.args.site.now in
-    let r = g.R.RunContract in
+    let v = view_of (g.R.RunContract.meaning site) (g.R.ServiceContract.serving site) in
     let met = g.met.R.RunContract in
-    let service = service_of (r.plan site) (g.R.ServiceContract.serving site) in
-    let rest = rest-of service (r.holds site) (r.stands site) (met.meets site) (met.apart site) c.args.self.now.client.stage c.in-Idle.is in
-    let not = not-at service (r.holds site) (r.stands site) (met.meets site) (met.apart site) c.args.self.now.client.stage st (stage-is service (r.holds site) (r.stands site) (met.meets site) (met.apart site) st did c.args.self.now c.args.turn.now (settle service c.args.now.0) h) rest.0 rest.1 in
-    done-came (r.plan site) (r.holds site) (r.stands site) st did c.args.self.now c.args.turn.now
-    (settles-not service (r.holds site) (r.stands site) (met.meets site) (met.apart site) c.args.now.0 st did c.args.self.now c.args.turn.now not.0 not.1 h)
+    let rest = rest-of v (met.meets site) (met.apart site) c.args.self.now.client.stage c.in-Idle.is in
+    let not = not-at v (met.meets site) (met.apart site) c.args.self.now.client.stage st (stage-is v (met.meets site) (met.apart site) st did c.args.self.now c.args.turn.now (settle (service v) c.args.now.0) h) rest.0 rest.1 in
+    done-came v st did c.args.self.now c.args.turn.now
+    (settles-not v (met.meets site) (met.apart site) c.args.now.0 st did c.args.self.now c.args.turn.now not.0 not.1 h)
 
 pub returns-in-Idle-clause-costs : goal.returns-in-Idle-clause-costs
 returns-in-Idle-clause-costs g c = settles-nothing g.R.RunContract.left g.R.ServiceContract.bound c.args.self.now c.args.turn.now

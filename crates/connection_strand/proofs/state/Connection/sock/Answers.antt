@@ -1,6 +1,6 @@
 use Rattle.std.proofs.Common.{refl, ap, subst}
 use Rattle.run_contract.specs.declared.turns.SockSeen.{SockSeen}
-use Rattle.connection_plan.specs.Serving.{service_of}
+use Rattle.connection_strand.specs.Views.{view_of, service}
 use Rattle.connection_strand.specs.Kept.{Kept}
 use Rattle.connection_strand.specs.Shown.{Shown, sock_seen}
 use Rattle.connection_strand.proofs.Ends.{ok-map}
@@ -10,46 +10,42 @@ use Rattle.connection_strand.proofs.state.Connection.sock.Goals as goal
 pub go_on-requires : goal.go_on-requires
 go_on-requires g c =
     let site = c.args.site.now in
-    let r = g.R.RunContract in
+    let v = view_of (g.R.RunContract.meaning site) (g.R.ServiceContract.serving site) in
     let met = g.met.R.RunContract in
-    let service = service_of (r.plan site) (g.R.ServiceContract.serving site) in
     let now = c.args.now.0 in
-    let t = (subst (λ (s : SockSeen). Shown service (r.holds site) (r.stands site) now (sock_seen c.args.socket s) c.requires.0 c.args.self.now c.args.turn.now) c.in-Took.is c.requires.1) in (
+    let t = (subst (λ (s : SockSeen). Shown v now (sock_seen c.args.socket s) c.requires.0 c.args.self.now c.args.turn.now) c.in-Took.is c.requires.1) in (
       c.requires.0,
-      shown-took service (r.holds site) (r.stands site) (met.meets site) (met.apart site) now c.args.socket c.in-Took.count c.min-count.result c.piece_at.result.now c.requires.0 c.args.self.now c.args.turn.now t
+      shown-took v (met.meets site) (met.apart site) now c.args.socket c.in-Took.count c.min-count.result c.piece_at.result.now c.requires.0 c.args.self.now c.args.turn.now t
           (c.piece_at.ensures t.ledger t.inner (ap (λ (k : Kept). k.stage) t.client) t.run t.known t.none_asked) c.min-count.ensures,
     )
 
 pub go_on-requires-in_default : goal.go_on-requires-in_default
 go_on-requires-in_default g c =
     let site = c.args.site.now in
-    let r = g.R.RunContract in
+    let v = view_of (g.R.RunContract.meaning site) (g.R.ServiceContract.serving site) in
     let met = g.met.R.RunContract in
-    let service = service_of (r.plan site) (g.R.ServiceContract.serving site) in
     let now = c.args.now.0 in
-    (c.requires.0, shown-sock service (r.holds site) (r.stands site) (met.meets site) (met.apart site) now c.args.socket c.args.seen c.in_default.not-Took c.requires.0 c.args.self.now c.args.turn.now c.requires.1)
+    (c.requires.0, shown-sock v (met.meets site) (met.apart site) now c.args.socket c.args.seen c.in_default.not-Took c.requires.0 c.args.self.now c.args.turn.now c.requires.1)
 
 pub returns-in-Took-clause-moves : goal.returns-in-Took-clause-moves
 returns-in-Took-clause-moves g c =
     let site = c.args.site.now in
-    let r = g.R.RunContract in
+    let v = view_of (g.R.RunContract.meaning site) (g.R.ServiceContract.serving site) in
     let met = g.met.R.RunContract in
-    let service = service_of (r.plan site) (g.R.ServiceContract.serving site) in
     let now = c.args.now.0 in
     ok-map c.go_on.result _ _ (λ done goes. λ did h.
-    let t = (subst (λ (s : SockSeen). Shown service (r.holds site) (r.stands site) now (sock_seen c.args.socket s) did c.args.self.now c.args.turn.now) c.in-Took.is h) in
-    goes did (shown-took service (r.holds site) (r.stands site) (met.meets site) (met.apart site) now c.args.socket c.in-Took.count c.min-count.result c.piece_at.result.now did c.args.self.now c.args.turn.now t
+    let t = (subst (λ (s : SockSeen). Shown v now (sock_seen c.args.socket s) did c.args.self.now c.args.turn.now) c.in-Took.is h) in
+    goes did (shown-took v (met.meets site) (met.apart site) now c.args.socket c.in-Took.count c.min-count.result c.piece_at.result.now did c.args.self.now c.args.turn.now t
     (c.piece_at.ensures t.ledger t.inner (ap (λ (k : Kept). k.stage) t.client) t.run t.known t.none_asked) c.min-count.ensures)) c.go_on.ensures.moves
 
 pub returns-in_default : goal.returns-in_default
 returns-in_default g c =
     let site = c.args.site.now in
-    let r = g.R.RunContract in
+    let v = view_of (g.R.RunContract.meaning site) (g.R.ServiceContract.serving site) in
     let met = g.met.R.RunContract in
-    let service = service_of (r.plan site) (g.R.ServiceContract.serving site) in
     let now = c.args.now.0 in
     record {
       moves = ok-map c.go_on-in_default.result _ _ (λ done goes. λ did h. goes did
-          (shown-sock service (r.holds site) (r.stands site) (met.meets site) (met.apart site) now c.args.socket c.args.seen c.in_default.not-Took did c.args.self.now c.args.turn.now h)) c.go_on-in_default.ensures.moves;
+          (shown-sock v (met.meets site) (met.apart site) now c.args.socket c.args.seen c.in_default.not-Took did c.args.self.now c.args.turn.now h)) c.go_on-in_default.ensures.moves;
       falls = λ own. c.go_on-in_default.ensures.falls refl own;
     }

@@ -1,6 +1,6 @@
 use Rattle.std.proofs.Common.{refl}
-use Rattle.connection_plan.specs.Serving.{service_of}
-use Rattle.connection_strand.proofs.Losing.{went-done}
+use Rattle.connection_strand.specs.Views.{view_of, service}
+use Rattle.connection_strand.proofs.Ends.{went-came}
 use Rattle.connection_strand.proofs.Beginning.{begun, follows}
 use Rattle.connection_strand.proofs.state.Connection.start.Goals as goal
 
@@ -16,8 +16,7 @@ take_first_turn-requires-clause-offered g c = refl
 pub returns : goal.returns
 returns g c =
     let site = c.args.site.now in
-    let r = g.R.RunContract in
-    let service = service_of (r.plan site) (g.R.ServiceContract.serving site) in
-    follows service (r.holds site) (r.stands site) c.args.now.0 c.args.start c.take_first_turn.new.self c.take_first_turn.new.turn
-    (went-done service (r.holds site) (r.stands site) c.in_ok-take_first_turn.field-0 (begun service (r.holds site) (r.stands site) c.args.now.0 c.args.start) c.take_first_turn.new.self c.take_first_turn.new.turn
+    let v = view_of (g.R.RunContract.meaning site) (g.R.ServiceContract.serving site) in
+    follows v c.args.now.0 c.args.start c.take_first_turn.new.self c.take_first_turn.new.turn
+    (went-came v c.in_ok-take_first_turn.field-0 (begun v c.args.now.0 c.args.start) c.take_first_turn.new.self c.take_first_turn.new.turn
     c.in_ok-take_first_turn.ensures)

@@ -2,7 +2,7 @@ use Rattle.std.proofs.Common.{true, Some, refl, sym, subst}
 use Rattle.strand_contract.specs.declared.turns.Start.TheVariants as start
 use Rattle.strand_plans.specs.Moves.{Done}
 use Rattle.connection_plan.specs.Clients as stage
-use Rattle.connection_plan.specs.Serving.{service_of}
+use Rattle.connection_strand.specs.Views.{view_of, service}
 use Rattle.connection_strand.specs.declared.client.Stage.TheVariants as code
 use Rattle.connection_strand.specs.Following.{IsNew, is_client}
 use Rattle.connection_strand.specs.Standing.{plain, Went}
@@ -13,30 +13,28 @@ use Rattle.connection_strand.proofs.state.Connection.take_first_turn.Goals as go
 pub returns-in_ok-begin_timer-in-Client : goal.returns-in_ok-begin_timer-in-Client
 returns-in_ok-begin_timer-in-Client g c =
     let site = c.args.site.now in
-    let r = g.R.RunContract in
+    let v = view_of (g.R.RunContract.meaning site) (g.R.ServiceContract.serving site) in
     let met = g.met.R.RunContract in
-    let service = service_of (r.plan site) (g.R.ServiceContract.serving site) in
     let now = c.args.now.0 in
-    let to = begun service (r.holds site) (r.stands site) now (start.Client c.in-Client.field-0) in
-    let new = subst (λ begin. IsNew service.default_times (is_client begin) c.args.self.now) c.in-Client.is c.requires.connection in
-    subst (λ begin. Went (r.plan site) (r.holds site) (r.stands site) true (begun service (r.holds site) (r.stands site) now begin) c.begin_timer.new.self c.begin_timer.new.turn Done) (sym c.in-Client.is) (
+    let to = begun v now (start.Client c.in-Client.field-0) in
+    let new = subst (λ begin. IsNew v.serving.default_times (is_client begin) c.args.self.now) c.in-Client.is c.requires.connection in
+    subst (λ begin. Went v true (begun v now begin) c.begin_timer.new.self c.begin_timer.new.turn Done) (sym c.in-Client.is) (
       stage.Head,
       c.in_ok-begin_timer-in-Client.ensures.moves (plain stage.Head) to Done
-          (begins-client service (r.holds site) (r.stands site) now c.in-Client.field-0 c.args.self.now c.args.turn.now new.client new.sockets new.count new.keeping new.taking c.requires.acts c.requires.offered),
+          (begins-client v now c.in-Client.field-0 c.args.self.now c.args.turn.now new.client new.sockets new.count new.keeping new.taking c.requires.acts c.requires.offered),
     )
 
 pub returns-in-Job : goal.returns-in-Job
 returns-in-Job g c =
     let site = c.args.site.now in
-    let r = g.R.RunContract in
+    let v = view_of (g.R.RunContract.meaning site) (g.R.ServiceContract.serving site) in
     let met = g.met.R.RunContract in
-    let service = service_of (r.plan site) (g.R.ServiceContract.serving site) in
     let now = c.args.now.0 in
     let begin = start.Job c.in-Job.field-0 c.in-Job.premature c.in-Job.job in
     let old = c.args.self.now in
-    let new = subst (λ begin. IsNew service.default_times (is_client begin) c.args.self.now) c.in-Job.is c.requires.connection in
-    ok-map c.adopt_run.result _ _ (λ on x.
-    subst (λ begin. Went (r.plan site) (r.holds site) (r.stands site) on (begun service (r.holds site) (r.stands site) now begin) c.adopt_run.new.self c.adopt_run.new.turn Done) (sym c.in-Job.is)
-    (x.3 (begun service (r.holds site) (r.stands site) now begin) Done
-    (begins-job service (r.holds site) (r.stands site) now (met.meets site) c.in-Job.field-0 c.in-Job.premature c.in-Job.job x.0 x.1 old (record old { client = record old.client { stage = code.Busy }; run = Some x.0 }) c.args.turn.now (of-ok c.begin_job-begun.result (x.0, x.1) _ x.2 c.begin_job-begun.ensures)
-    new.client new.waits new.sockets new.count new.keeping refl refl refl refl refl refl c.requires.acts))) c.adopt_run.ensures
+    let new = subst (λ begin. IsNew v.serving.default_times (is_client begin) c.args.self.now) c.in-Job.is c.requires.connection in
+    ok-map c.take_run.result _ _ (λ on x.
+    subst (λ begin. Went v on (begun v now begin) c.take_run.new.self c.take_run.new.turn Done) (sym c.in-Job.is)
+    (x.3 (begun v now begin) Done
+    (begins-job v now (met.meets site) c.in-Job.field-0 c.in-Job.premature c.in-Job.job x.0 x.1 old (record old { client = record old.client { stage = code.Busy }; run = Some x.0 }) c.args.turn.now (of-ok c.begin_job-begun.result (x.0, x.1) _ x.2 c.begin_job-begun.ensures)
+    new.client new.waits new.sockets new.count new.keeping refl refl refl refl refl refl c.requires.acts))) c.take_run.ensures

@@ -1,6 +1,6 @@
 use Rattle.std.proofs.Common.{◌∷◌, [], sym, subst}
 use Rattle.strand_contract.specs.Actions.{Did, Began}
-use Rattle.connection_plan.specs.Serving.{service_of}
+use Rattle.connection_strand.specs.Views.{view_of, service}
 use Rattle.connection_strand.specs.declared.state.Connection.{Connection}
 use Rattle.connection_strand.specs.Following.{IsNew, Follows}
 use Rattle.connection_strand.proofs.Ends.{ok-map, of-ok}
@@ -15,8 +15,7 @@ start-acts-requires g c =
 pub returns : goal.returns
 returns g c =
     let site = c.args.site.now in
-    let r = g.R.RunContract in
-    let service = service_of (r.plan site) (g.R.ServiceContract.serving site) in
+    let v = view_of (g.R.RunContract.meaning site) (g.R.ServiceContract.serving site) in
     ok-map c.paired.result _ _ (λ pair e.
     let h = of-ok c.start-acts.result pair.1 _ e.1 c.start-acts.ensures in
-    (subst (λ (k : Connection g.row.R.Denot). Follows service (r.stands site) k (Did (Began c.args.now.0 c.args.start) ∷ [])) (sym e.0) h.0, h.1)) c.paired.ensures
+    (subst (λ (k : Connection g.row.R.Denot). Follows v k (Did (Began c.args.now.0 c.args.start) ∷ [])) (sym e.0) h.0, h.1)) c.paired.ensures

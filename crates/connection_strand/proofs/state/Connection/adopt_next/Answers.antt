@@ -1,5 +1,0 @@
-use Rattle.connection_strand.proofs.Ends.{ok-both}
-use Rattle.connection_strand.proofs.state.Connection.adopt_next.Goals as goal
-
-pub returns-in-Ok : goal.returns-in-Ok
-returns-in-Ok g c = ok-both c.adopt_turn.result _ _ _ (λ on takes spends. (c.in-Ok.next, c.in-Ok.is, takes, spends)) c.adopt_turn.ensures.moves c.adopt_turn.ensures.costs

@@ -1,0 +1,32 @@
+use Rattle.std.proofs.Common.{◌+◌, true, refl, sym, ap, subst}
+use Rattle.run_contract.specs.declared.turns.RunAct.{RunAct}
+use Rattle.connection_strand.specs.Views.{view_of}
+use Rattle.connection_strand.specs.Costs.{unit}
+use Rattle.connection_strand.specs.Turns.{Takes, TakesPart}
+use Rattle.connection_strand.proofs.Costing.{unit-some}
+use Rattle.connection_strand.proofs.Ends.{ok-map, ok-both}
+use Rattle.connection_strand.proofs.Parts.{TookAct, takes-act, takes-word}
+use Rattle.connection_strand.proofs.Paying.{act-costs, spends-more}
+use Rattle.connection_strand.proofs.state.Connection.take_part.Goals as goal
+
+pub returns-in-Act-clause-moves : goal.returns-in-Act-clause-moves
+returns-in-Act-clause-moves g c =
+    let site = c.args.site.now in
+    let v = view_of (g.R.RunContract.meaning site) (g.R.ServiceContract.serving site) in
+    ok-both c.take_act.result _ _ _ (λ on goes acts. subst (λ (x : RunAct g.row.R-Job.Denot). TakesPart v c.args.now.0 on x c.args.self.now c.args.turn.now c.take_act.new.self c.take_act.new.turn) (sym c.in-Act.is)
+    (λ rest did m h. subst (λ on. Takes v c.args.now.0 on rest did c.take_act.new.self c.take_act.new.turn m) (sym goes)
+    (takes-act v c.args.now.0 c.in-Act.act rest did c.args.self.now c.take_act.new.self c.args.turn.now c.take_act.new.turn m
+    (record { sockets = c.take_act.ensures.sockets; keeping = c.take_act.ensures.keeping; kept = c.take_act.ensures.kept; offered = c.take_act.ensures.offered; acts = acts }) h))) c.take_act.ensures.goes_on c.take_act.ensures.acts
+
+pub returns-in-Act-clause-costs : goal.returns-in-Act-clause-costs
+returns-in-Act-clause-costs g c =
+    ok-map c.take_act.result _ _ (λ on acts. spends-more g.R.RunContract.left g.R.ServiceContract.bound 1 unit c.args.self.now c.take_act.new.self c.args.turn.now c.take_act.new.turn unit-some
+    (act-costs g.R.RunContract.left g.R.ServiceContract.bound c.in-Act.act c.args.self.now c.take_act.new.self c.args.turn.now c.take_act.new.turn
+    (record { sockets = c.take_act.ensures.sockets; keeping = c.take_act.ensures.keeping; kept = c.take_act.ensures.kept; offered = c.take_act.ensures.offered; acts = acts }))) c.take_act.ensures.acts
+
+pub returns-in-Ok-clause-moves : goal.returns-in-Ok-clause-moves
+returns-in-Ok-clause-moves g c =
+    let site = c.args.site.now in
+    let v = view_of (g.R.RunContract.meaning site) (g.R.ServiceContract.serving site) in
+    subst (λ (x : RunAct g.row.R-Job.Denot). TakesPart v c.args.now.0 true x c.args.self.now c.args.turn.now c.hear_word.new.self c.hear_word.new.turn) (sym c.in-Say.is)
+    (λ rest did m h. takes-word v c.args.now.0 c.in-Say.word rest did c.args.self.now c.hear_word.new.self c.args.turn.now c.hear_word.new.turn m c.in-Ok.ensures.moves h)
