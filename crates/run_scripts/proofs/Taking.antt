@@ -3,19 +3,18 @@ use Rattle.std.proofs.Common.{◌≡◌, ℕ, ◌+◌, ◌*◌, ◌≤◌, ◌<�
 use Rattle.std.proofs.Common.{refl, sym, ap, ◌∙◌, subst, append-nil, length-append, arith, inl, inr, Result, Ok, Err}
 use Rattle.std.specs.Prelude.{◌⊎◌, is_some, not, IfOk}
 use Rattle.strand_contract.specs.declared.turns.Act.TheVariants as act
-use Rattle.strand_contract.specs.Actions.{Did, Run, Due}
+use Rattle.strand_contract.specs.Actions.{Did, Run}
 use Rattle.strand_plans.specs.Ledgers.{Ledger, has_number, entered}
 use Rattle.run_contract.specs.declared.stored.NoJob.{NoJob}
 use Rattle.run_contract.specs.declared.turns.Asking.{Asking}
 use Rattle.run_contract.specs.declared.turns.LocationTimes.{LocationTimes}
-use Rattle.run_contract.specs.declared.turns.RunAct.{RunAct}
 use Rattle.run_contract.specs.declared.turns.RunAct.TheVariants as made
 use Rattle.run_contract.specs.declared.turns.RunSeen.{RunSeen}
 use Rattle.run_contract.specs.declared.turns.RunSeen.TheVariants as seen
 use Rattle.run_contract.specs.declared.turns.RunTurn.{RunTurn}
 use Rattle.run_contract.specs.Calls.{Meaning, size_of, is_own_turn, MayBeTold, TakesTurn}
 use Rattle.run_contract.specs.Conditions.{MayCome, entered_as}
-use Rattle.run_contract.specs.Deeds.{Deed, Turn, taken, made_if}
+use Rattle.run_contract.specs.Deeds.{Deed, Turn, taken, within, made_if}
 use Rattle.run_scripts.specs.declared.run.Progress.{Progress}
 use Rattle.run_scripts.specs.declared.run.Progress.TheVariants.{Asked, Sleeping, Woken, Gone, Over}
 use Rattle.run_scripts.specs.declared.run.ScriptedRun.{ScriptedRun}
@@ -34,19 +33,21 @@ use Rattle.run_scripts.specs.Turns as code
 record IsSame (c : code.Took) (t : Turn NoJob ScriptedRun) (b : Ledger NoJob) : Type 0 where
   pub run : c.run ≡ t.run
   pub made : c.does ≡ (taken t b).made
+  pub asks : within t.asks ≡ None
 
 by-step : (x : Step) (ds : List Deed) (rest : Made) (r : ScriptedRun) (b : Ledger NoJob) → IsSame (code.turn rest r) (does ds r) b
     → IsSame (code.turn (step_made x ++ rest) r) (does (plan.step x ds) r) b
 by-step x ds rest r b h = record {
   run = refl;
   made = ap (λ (xs : Made). step_made x ++ xs) (h.made ∙ append-nil _) ∙ sym (append-nil _ ∙ step-made x ds b);
+  asks = refl;
 }
 
 alone : (x : Step) (r : ScriptedRun) (b : Ledger NoJob) → IsSame (code.turn (step_made x) r) (does (plan.step x []) r) b
-alone x r b = record { run = refl; made = sym (append-nil _ ∙ step-made x [] b ∙ append-nil _) }
+alone x r b = record { run = refl; made = sym (append-nil _ ∙ step-made x [] b ∙ append-nil _); asks = refl }
 
 ending : (closes : Bool) (r : ScriptedRun) (b : Ledger NoJob) → IsSame (code.turn (end_made closes) r) (does (ends closes) r) b
-ending closes r b = record { run = refl; made = refl }
+ending closes r b = record { run = refl; made = refl; asks = refl }
 
 heard-same : (script : Script) (client : Bool) (p : Progress) (b : Ledger NoJob) → IsSame (heard script client p) (plan.heard script client p) b
 heard-same script client Asked b = by-step script.answered (ends script.closes) (end_made script.closes) (run_at Over client) b (ending script.closes (run_at Over client) b)
@@ -59,7 +60,7 @@ ran-same script client p b = ending script.closes (run_at Over client) b
 ended-same : (script : Script) (client : Bool) (p : Progress) (b : Ledger NoJob) → IsSame (client_ended script client p) (plan.client_ended script client p) b
 ended-same script client Sleeping b = alone script.client_ends (run_at Sleeping client) b
 ended-same script client Woken b = alone script.client_ends (run_at Woken client) b
-ended-same script client p b = record { run = refl; made = refl }
+ended-same script client p b = record { run = refl; made = refl; asks = refl }
 
 -- the thread is queued where it isn't yet
 put-in : (p : Progress) (ks : List ℕ) → ks ≡ threads_at p → p ≡ Sleeping → made_if {J = NoJob} (not (has_number 0 ks)) (act.Ready 0) ≡ made.Act (act.Ready 0) ∷ []
@@ -70,8 +71,9 @@ gone-same : (client : Bool) (p : Progress) (b : Ledger NoJob) → ScriptedHolds 
 gone-same client Sleeping b h = record {
   run = refl;
   made = ap (λ (xs : Made). made.Act (act.Cancel 2) ∷ xs) (sym (append-nil _ ∙ append-nil _ ∙ put-in Sleeping b.threads h.threads refl));
+  asks = refl;
 }
-gone-same client p b h = record { run = refl; made = refl }
+gone-same client p b h = record { run = refl; made = refl; asks = refl }
 
 told-same : (script : Script) (now : ℕ) (s : RunSeen) (b : Ledger NoJob) (r : ScriptedRun) → ScriptedHolds b r → MayCome (scripted_plan script) now s b r
     → IsSame (told script now s r) (scripted_turn script now s (entered_as s b) r) (entered_as s b)
@@ -79,21 +81,22 @@ told-same script now (seen.Run k) b r h x = ran-same script r.has_client r.progr
 told-same script now (seen.Due n) b r h x = record {
   run = refl;
   made = sym (append-nil _ ∙ append-nil _ ∙ put-in r.progress b.threads h.threads (due-sleeping now n b r h x.0 x.1));
+  asks = refl;
 }
 told-same script now (seen.Body content waited) b r h x = heard-same script r.has_client r.progress b
 told-same script now (seen.BodyRefused code) b r h x = heard-same script r.has_client r.progress b
 told-same script now seen.AllTaken b r h x = heard-same script r.has_client r.progress b
-told-same script now seen.NotYet b r h x = by-step script.not_yet _ _ (run_at Sleeping r.has_client) b (record { run = refl; made = refl })
+told-same script now seen.NotYet b r h x = by-step script.not_yet _ _ (run_at Sleeping r.has_client) b (record { run = refl; made = refl; asks = refl })
 told-same script now seen.ClientEnded b r h x = ended-same script r.has_client r.progress b
 told-same script now seen.ClientGone b r h x = gone-same r.has_client r.progress b h
 told-same script now (seen.Sock k s) b r h x = none-comes b r k s h x.0
 
-pub takes : (script : Script) (now : ℕ) (s : RunSeen) (b : Ledger NoJob) (old new r : ScriptedRun) (m : Made) → old ≡ r → ScriptedHolds b r
+takes : (script : Script) (now : ℕ) (s : RunSeen) (b : Ledger NoJob) (old new r : ScriptedRun) (m : Made) → old ≡ r → ScriptedHolds b r
     → MayCome (scripted_plan script) now s b r → code.turn m new ≡ told script now s old
-    → let c = entered_as s b in let t = scripted_turn script now s c r in (new ≡ t.run) × (m ≡ (taken t c).made)
+    → let c = entered_as s b in let t = scripted_turn script now s c r in (new ≡ t.run) × (m ≡ (taken t c).made) × (within t.asks ≡ None)
 takes script now s b old new r m e h x is =
     let there = is ∙ ap (told script now s) e in let same = told-same script now s b r h x in
-    (ap (λ (t : code.Took). t.run) there ∙ same.run, ap (λ (t : code.Took). t.does) there ∙ same.made)
+    (ap (λ (t : code.Took). t.run) there ∙ same.run, ap (λ (t : code.Took). t.does) there ∙ same.made, same.asks)
 
 -- ---- how much is left
 
@@ -109,12 +112,12 @@ sent-short : (o : Option (List ℕ)) → length (sent o) ≤ 1
 sent-short None = omega arith
 sent-short (Some t) = omega arith
 
-pub step-short : (x : Step) (rest : Made) → length (step_made x ++ rest) ≤ 3 + length rest
+step-short : (x : Step) (rest : Made) → length (step_made x ++ rest) ≤ 3 + length rest
 step-short x rest =
     let a = moved-short x.moves_on in let b = logged-short x.logs in let c = sent-short x.says in
-    let d = length-append (step_made x) rest in
-    let e = length-append (moved x.moves_on) (logged x.logs ++ sent x.says) in
-    let f = length-append (logged x.logs) (sent x.says) in
+    let d : length (step_made x ++ rest) ≡ length (step_made x) + length rest = length-append (step_made x) rest in
+    let e : length (step_made x) ≡ length (moved x.moves_on ++ logged x.logs) + length (sent x.says) = length-append (moved x.moves_on ++ logged x.logs) (sent x.says) in
+    let f = length-append (moved x.moves_on) (logged x.logs) in
     omega (arith, a, b, c, d, e, f)
 
 step-shorter : (x : Step) → length (step_made x) ≤ 3
@@ -173,7 +176,7 @@ meant script = record { plan = scripted_plan script; holds = ScriptedHolds; stan
 pub takes-turn : {E : Type 0} (script : Script) (now : ℕ) (s : RunSeen) (old new : ScriptedRun) (result : Result (RunTurn NoJob) E)
     → IfOk result (λ t. code.turn t.does.items new ≡ told script now s old) → IfOk result (λ t. t.asks ≡ None)
     → IfOk result (λ t. TakesTurn (meant script) now s old new t)
-takes-turn script now s old new (Ok t) is asks = λ b r e h x. let same = takes script now s b old new r t.does.items e h x is in (same.0, same.1, asks)
+takes-turn script now s old new (Ok t) is asks = λ b r e h x. let same = takes script now s b old new r t.does.items e h x is in (same.0, same.1, asks ∙ sym same.2)
 takes-turn script now s old new (Err e) is asks = tt
 
 pub takes-less : {E : Type 0} (script : Script) (now : ℕ) (s : RunSeen) (old new : ScriptedRun) (result : Result (RunTurn NoJob) E)

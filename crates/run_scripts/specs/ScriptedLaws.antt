@@ -1,5 +1,5 @@
 -- That a run by a script meets the conditions of a run.
-use Rattle.std.proofs.Common.{◌≡◌, ℕ, ◌+◌, ◌≤◌, ◌<◌, Bool, true, false, ◌==◌, ◌||◌, List, [], ◌∷◌, ◌++◌, drop, Option, Some, None, if◌then◌else◌}
+use Rattle.std.proofs.Common.{◌≡◌, ℕ, ◌+◌, ◌≤◌, ◌<◌, Bool, true, false, List, [], ◌∷◌, ◌++◌, drop, Option, Some, None, if◌then◌else◌}
 use Rattle.std.proofs.Common.{refl, sym, ap, ◌∙◌, subst, arith, inl, inr}
 use Rattle.std.specs.Prelude.{◌⊎◌, nat_lt, is_some, not}
 use Rattle.strand_contract.specs.declared.turns.Place.TheVariants as place
@@ -7,7 +7,7 @@ use Rattle.strand_contract.specs.declared.turns.Answer.{Answer}
 use Rattle.strand_contract.specs.Actions.{Action, Did, Run, Due}
 use Rattle.strand_contract.specs.Calls.{answered}
 use Rattle.strand_contract.specs.Alone.{IsPrefixOf, disarmed, without}
-use Rattle.strand_plans.specs.Questions.{Question, asking_if}
+use Rattle.strand_plans.specs.Questions.{asking_if}
 use Rattle.strand_plans.specs.Ledgers.{Ledger, has, has_number, numbers, entered}
 use Rattle.strand_plans.specs.Turns.{IsDue}
 use Rattle.run_contract.specs.declared.turns.Asking.{Asking}
@@ -19,7 +19,7 @@ use Rattle.run_contract.specs.declared.turns.SockSeen.TheVariants as at
 use Rattle.run_contract.specs.Alike.{own_deadlines, AreAlike}
 use Rattle.run_contract.specs.Conditions.{IsBlank, IsUnused, MayComeAt, MayHear, MayCome, asks_body, asks_taken, Leaves, entered_as, IsRun}
 use Rattle.resty_base.specs.declared.names.Ms.{Ms}
-use Rattle.run_contract.specs.Deeds.{Ready, Arm, Nothing, Within, IsQuiet}
+use Rattle.run_contract.specs.Deeds.{Turn, Ready, Arm, Nothing, Within, IsQuiet}
 use Rattle.run_contract.specs.Runs.{Waits, waits_at_first, waits_longer, waits_told, is_of_client}
 use Rattle.run_scripts.specs.declared.run.Progress.{Progress}
 use Rattle.run_scripts.specs.declared.run.Progress.TheVariants.{Asked, Sleeping, Woken, Gone, Over}
@@ -117,6 +117,10 @@ has-client q false p e = never e
 
 -- ---- what its turns leave
 
+-- the turn leaves the run as the conditions want it
+abbrev Left : {J : Type 0} → Script → Waits → Turn J ScriptedRun → Ledger J → Type 0
+Left script w t b = Leaves (scripted_plan script) ScriptedHolds w t b
+
 -- it waits for nothing any more
 at-first : (client : Bool) → (if client then waits_at_first true else waits_at_first false) ≡ waits_at_first client
 at-first true = refl
@@ -131,14 +135,20 @@ record IsEnding {J : Type 0} (b : Ledger J) : Type 0 where
   pub unused : (k : ℕ) → b.count ≤ k → IsUnused (place.Sock k) b
 
 ends-leaves : {J : Type 0} (script : Script) (closes client : Bool) (w : Waits) (b : Ledger J) → IsEnding b → w.client ≡ client
-    → Leaves (scripted_plan script) ScriptedHolds w (does (ends closes) (run_at Over client)) b
+    → Left script w (does (ends closes) (run_at Over client)) b
 ends-leaves script closes client w b h e =
     let cleared = own-left b.armed ∙ h.deadlines in
     record {
       known = record { threads = h.threads; deadlines = cleared; none_asked = h.none_asked; no_socket = h.no_socket; unused = h.unused };
       waits = at-first client ∙ ap waits_at_first (sym e);
       over = λ x.
-          (record { no_thread = h.threads; no_deadline = none-armed (own_deadlines (disarmed 2 b.armed)) cleared; no_socket = h.no_socket; none_asked = h.none_asked; unused = h.unused }, refl);
+          (record {
+            no_thread = h.threads;
+            no_deadline = none-armed (own_deadlines (disarmed 2 b.armed)) cleared;
+            no_socket = h.no_socket;
+            none_asked = h.none_asked;
+            unused = h.unused;
+          }, refl);
     }
 
 thread-left : (p : Progress) → without 0 (threads_at p) ≡ []
@@ -192,7 +202,7 @@ client-told q true Gone = refl
 client-told q true Over = refl
 
 heard-leaves : {J : Type 0} (script : Script) (client : Bool) (p : Progress) (w : Waits) (b : Ledger J) → ScriptedHolds b (run_at p client)
-    → w.client ≡ client → Leaves (scripted_plan script) ScriptedHolds w (heard script client p) b
+    → w.client ≡ client → Left script w (heard script client p) b
 heard-leaves script client Asked w b h e =
     step-leaves script script.answered (ends script.closes) Nothing (run_at Over client) w b
     (ends-leaves script script.closes client w b (is-ending b (run_at Asked client) h) e)
@@ -201,7 +211,7 @@ heard-leaves script client p w b h e =
     (ends-leaves script script.closes client w b (is-ending b (run_at p client) h) e)
 
 ran-leaves : {J : Type 0} (script : Script) (client : Bool) (p : Progress) (w : Waits) (k : ℕ) (b : Ledger J) → ScriptedHolds b (run_at p client)
-    → w.client ≡ client → Leaves (scripted_plan script) ScriptedHolds w (ran script client p) (entered (Did (Run k)) b)
+    → w.client ≡ client → Left script w (ran script client p) (entered (Did (Run k)) b)
 ran-leaves script client Woken w k b h e =
     step-leaves script script.woken (ends script.closes) Nothing (run_at Over client) w (entered (Did (Run k)) b)
     (ends-leaves script script.closes client w (entered (Did (Run k)) b) (is-ending-run k b (run_at Woken client) h) e)
@@ -213,12 +223,12 @@ same-waits : (w : Waits) → w.asks ≡ None → w ≡ record w { asks = None }
 same-waits w e = ap (λ (o : Option Asking). record w { asks = o }) e
 
 stays-leaves : {J : Type 0} (script : Script) (r : ScriptedRun) (b : Ledger J) → ScriptedHolds b r → (scripted_waits script r).asks ≡ None
-    → Leaves (scripted_plan script) ScriptedHolds (scripted_waits script r) (does [] r) b
+    → Left script (scripted_waits script r) (does [] r) b
 stays-leaves script r b h e = record { known = h; waits = same-waits (scripted_waits script r) e; over = λ x. never x }
 
 ended-leaves : {J : Type 0} (script : Script) (client : Bool) (p : Progress) (b : Ledger J) → ScriptedHolds b (run_at p client)
     → (scripted_waits script (run_at p client)).asks ≡ None
-    → Leaves (scripted_plan script) ScriptedHolds (scripted_waits script (run_at p client)) (client_ended script client p) b
+    → Left script (scripted_waits script (run_at p client)) (client_ended script client p) b
 ended-leaves script client Sleeping b h e =
     let r = run_at Sleeping client in step-leaves script script.client_ends [] Nothing r (scripted_waits script r) b (stays-leaves script r b h e)
 ended-leaves script client Woken b h e =
@@ -232,7 +242,7 @@ abbrev put_in : List ℕ → List ℕ
 put_in ks = ks ++ (if not (has_number 0 ks) then 0 ∷ [] else [])
 
 gone-leaves : {J : Type 0} (script : Script) (client : Bool) (p : Progress) (b : Ledger J) → ScriptedHolds b (run_at p client)
-    → Leaves (scripted_plan script) ScriptedHolds (waits_at_first false) (let_go p) b
+    → Left script (waits_at_first false) (let_go p) b
 gone-leaves script client Sleeping b h = record {
   known = record {
     threads = ap put_in h.threads;
@@ -250,7 +260,6 @@ gone-leaves script client p b h = record {
   over = λ x. never x;
 }
 
-
 -- what it asked for isn't there yet
 sleep-waits : (q : Asking) → waits_longer (Some q) (waits_at_first true)
     ≡ record (waits_longer (Some q) (record (waits_at_first true) { asks = Some q })) { asks = None }
@@ -258,7 +267,7 @@ sleep-waits (asking.Body max) = refl
 sleep-waits asking.AllTaken = refl
 
 sleep-leaves : {J : Type 0} (script : Script) (until : Ms) (b : Ledger J) → ScriptedHolds b (run_at Asked true)
-    → Leaves (scripted_plan script) ScriptedHolds (waits_told seen.NotYet (scripted_waits script (run_at Asked true))) (does (Arm 0 until ∷ []) (run_at Sleeping true)) b
+    → Left script (waits_told seen.NotYet (scripted_waits script (run_at Asked true))) (does (Arm 0 until ∷ []) (run_at Sleeping true)) b
 sleep-leaves script until b h = record {
   known = record {
     threads = h.threads;
@@ -273,18 +282,19 @@ sleep-leaves script until b h = record {
 
 not-yet-leaves : {J : Type 0} (script : Script) (now : ℕ) (client : Bool) (p : Progress) (b : Ledger J) → ScriptedHolds b (run_at p client)
     → p ≡ Asked → client ≡ true
-    → Leaves (scripted_plan script) ScriptedHolds (waits_told seen.NotYet (scripted_waits script (run_at p client)))
+    → Left script (waits_told seen.NotYet (scripted_waits script (run_at p client)))
     (scripted_turn script now seen.NotYet b (run_at p client)) b
 not-yet-leaves script now true Asked b h e f =
     let until = later now script.sleeps in let r = run_at Asked true in
-    step-leaves script script.not_yet (Arm 0 until ∷ []) Nothing (run_at Sleeping true) (waits_told seen.NotYet (scripted_waits script r)) b (sleep-leaves script until b h)
+    let w = waits_told seen.NotYet (scripted_waits script r) in
+    step-leaves script script.not_yet (Arm 0 until ∷ []) Nothing (run_at Sleeping true) w b (sleep-leaves script until b h)
 not-yet-leaves script now false Asked b h e f = never f
 not-yet-leaves script now client p b h e f = absurd (cc)
 
 -- its deadline is due
 due-leaves : {J : Type 0} (script : Script) (client : Bool) (p : Progress) (b : Ledger J) → ScriptedHolds b (run_at p client) → p ≡ Sleeping
     → (scripted_waits script (run_at p client)).asks ≡ None
-    → Leaves (scripted_plan script) ScriptedHolds (scripted_waits script (run_at p client)) (does (Ready 0 ∷ []) (run_at Woken client)) (entered (Did (Due 2)) b)
+    → Left script (scripted_waits script (run_at p client)) (does (Ready 0 ∷ []) (run_at Woken client)) (entered (Did (Due 2)) b)
 due-leaves script client Sleeping b h e none = record {
   known = record {
     threads = ap put_in h.threads;
@@ -299,21 +309,25 @@ due-leaves script client Sleeping b h e none = record {
 due-leaves script client p b h e none = absurd (cc)
 
 stays : {J : Type 0} (script : Script) (now : ℕ) (s : RunSeen) (b : Ledger J) (r : ScriptedRun) → ScriptedHolds b r → MayCome (scripted_plan script) now s b r
-    → Leaves (scripted_plan script) ScriptedHolds (waits_told s (scripted_waits script r)) (scripted_turn script now s (entered_as s b) r) (entered_as s b)
+    → Left script (waits_told s (scripted_waits script r)) (scripted_turn script now s (entered_as s b) r) (entered_as s b)
 stays script now (seen.Run k) b r h x =
     ran-leaves script r.has_client r.progress (scripted_waits script r) k b h (client-told script.asks r.has_client r.progress)
 stays {J} script now (seen.Due n) b r h x =
     let there = due-there now n b r h x.0 x.1 in
     let slept = sleeps n r.progress there in
     let two = its-own n (subst (λ (p : Progress). has_number n (deadlines_at p) ≡ true) slept there) in
-    subst (λ (n : ℕ). Leaves (scripted_plan script) ScriptedHolds (scripted_waits script r) (does (Ready 0 ∷ []) (run_at Woken r.has_client)) (entered {J = J} (Did (Due n)) b))
+    let woken = does (Ready 0 ∷ []) (run_at Woken r.has_client) in
+    subst (λ (n : ℕ). Left script (scripted_waits script r) woken (entered {J = J} (Did (Due n)) b))
     (sym two) (due-leaves script r.has_client r.progress b h slept x.2)
 stays script now (seen.Body content waited) b r h x =
-    heard-leaves script r.has_client r.progress (waits_told (seen.Body content waited) (scripted_waits script r)) b h (client-told script.asks r.has_client r.progress)
+    let w = waits_told (seen.Body content waited) (scripted_waits script r) in
+    heard-leaves script r.has_client r.progress w b h (client-told script.asks r.has_client r.progress)
 stays script now (seen.BodyRefused code) b r h x =
-    heard-leaves script r.has_client r.progress (waits_told (seen.BodyRefused code) (scripted_waits script r)) b h (client-told script.asks r.has_client r.progress)
+    let w = waits_told (seen.BodyRefused code) (scripted_waits script r) in
+    heard-leaves script r.has_client r.progress w b h (client-told script.asks r.has_client r.progress)
 stays script now seen.AllTaken b r h x =
-    heard-leaves script r.has_client r.progress (waits_told seen.AllTaken (scripted_waits script r)) b h (client-told script.asks r.has_client r.progress)
+    let w = waits_told seen.AllTaken (scripted_waits script r) in
+    heard-leaves script r.has_client r.progress w b h (client-told script.asks r.has_client r.progress)
 stays script now seen.NotYet b r h x =
     let asked = is-asked script.asks r.has_client r.progress x.1 in not-yet-leaves script now r.has_client r.progress b h asked.0 asked.1
 stays script now seen.ClientEnded b r h x = ended-leaves script r.has_client r.progress b h x.0.within

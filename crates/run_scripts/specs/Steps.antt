@@ -1,10 +1,10 @@
 -- What a step changes: nothing of the ledger, and nothing of what is waited for.
-use Rattle.std.proofs.Common.{◌≡◌, ℕ, Bool, List, [], ◌∷◌, ◌++◌, Option, Some, None, refl, sym, ap, ◌∙◌, subst}
+use Rattle.std.proofs.Common.{◌≡◌, ℕ, List, ◌++◌, Option, Some, None, refl, sym, ap, ◌∙◌, subst}
 use Rattle.strand_plans.specs.Ledgers.{Ledger}
 use Rattle.run_contract.specs.declared.stored.NoJob.{NoJob}
 use Rattle.run_contract.specs.declared.turns.LocationTimes.{LocationTimes}
 use Rattle.run_contract.specs.Conditions.{IsBlank, Leaves}
-use Rattle.run_contract.specs.Deeds.{Deed, Asks, Nothing, ledger_after, ledger_asking, made_after, says_over, within}
+use Rattle.run_contract.specs.Deeds.{Deed, Asks, ledger_after, ledger_asking, made_after, says_over, within}
 use Rattle.run_contract.specs.Runs.{Waits, waits_did}
 use Rattle.run_scripts.specs.declared.run.ScriptedRun.{ScriptedRun}
 use Rattle.run_scripts.specs.declared.script.Script.{Script}

@@ -42,12 +42,7 @@ impl ServiceContract for ScriptedRun {
         minute()
     }
 
-    fn refusal(
-        _alloc: Global,
-        _site: &Script,
-        _code: u16,
-        _now: Ms,
-    ) -> Result<Bytes, AllocError> {
+    fn refusal(_alloc: Global, _site: &Script, _code: u16, _now: Ms) -> Result<Bytes, AllocError> {
         Ok(Bytes::from_static(b"refused"))
     }
 

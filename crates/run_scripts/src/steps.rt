@@ -19,7 +19,7 @@ const THREAD: u32 = 0;
 const SLEEP: u32 = 2;
 
 /// What a turn does, in order.
-pub(crate) type Does = VecDeque<RunAct<NoJob>>;
+type Does = VecDeque<RunAct<NoJob>>;
 
 /// A turn that asks nothing.
 pub(crate) fn turn_of(does: Does) -> RunTurn<NoJob>
@@ -60,7 +60,7 @@ fn say(does: &mut Does, text: &Option<Bytes>) -> Result<(), AllocError>
 }
 
 /// A step is done.
-pub(crate) fn put_step(does: &mut Does, step: &Step) -> Result<(), AllocError>
+fn put_step(does: &mut Does, step: &Step) -> Result<(), AllocError>
     ensures { IfOk result (λ done. does.new.items ≡ does.old.items ++ step_made step.now) }
 {
     move_on(does, step.moves_on)?;

@@ -5,4 +5,5 @@ pub returns-clause-turn : goal.returns-clause-turn
 returns-clause-turn c = takes-turn c.args.site.now c.args.now.0 c.args.seen c.args.self.now _ c.see.result c.see.ensures.turn c.see.ensures.asks
 
 pub returns-clause-left : goal.returns-clause-left
-returns-clause-left c own = takes-less c.args.site.now c.args.now.0 c.args.seen c.args.self.now _ c.see.result c.requires own c.see.ensures.turn c.see.ensures.asks
+returns-clause-left c own =
+    takes-less c.args.site.now c.args.now.0 c.args.seen c.args.self.now _ c.see.result c.requires own c.see.ensures.turn c.see.ensures.asks
