@@ -10,7 +10,7 @@ use std::alloc::{AllocError, Global};
 /// The first thread reads the body and the second says something. While the body isn't there the second sleeps as long as the connection waits for it.
 const READS: &str = "\
 asks: body 5
-answered: say child parent_
+answered: say child_parent_
 not_yet: say parent_
 sleeps: 60000
 later: say child_
@@ -21,7 +21,7 @@ client_ends: log ended";
 /// second slept: at that moment it comes due first.
 const READ: &str = r#"arrive c1
 bytes c1 "POST / HTTP/1.0\r\nContent-Length: 3\r\n\r\nhi!"
-> put c1 "child parent_"
+> put c1 "child_parent_"
 > close c1
 stop
 
@@ -89,7 +89,7 @@ stop"#;
 /// The first thread waits until all is taken, where nothing was said before.
 const FLUSHES: &str = "\
 asks: taken
-answered: say child parent_
+answered: say child_parent_
 not_yet: say parent_
 sleeps: 60000
 later: say child_
@@ -98,7 +98,7 @@ client_ends: log ended";
 
 const FLUSHED: &str = r#"arrive c1
 bytes c1 "GET / HTTP/1.0\r\n\r\n"
-> put c1 "child parent_"
+> put c1 "child_parent_"
 > close c1
 stop"#;
 
@@ -106,7 +106,7 @@ stop"#;
 const FILLS: &str = "\
 first: say first_
 asks: taken
-answered: say child parent_
+answered: say child_parent_
 not_yet: say parent_
 sleeps: 60000
 later: say child_

@@ -141,14 +141,16 @@ ends-leaves script closes client w b h e =
     record {
       known = record { threads = h.threads; deadlines = cleared; none_asked = h.none_asked; no_socket = h.no_socket; unused = h.unused };
       waits = at-first client ∙ ap waits_at_first (sym e);
-      over = λ x.
-          (record {
-            no_thread = h.threads;
-            no_deadline = none-armed (own_deadlines (disarmed 2 b.armed)) cleared;
-            no_socket = h.no_socket;
-            none_asked = h.none_asked;
-            unused = h.unused;
-          }, refl);
+      over = λ x. (
+        record {
+          no_thread = h.threads;
+          no_deadline = none-armed (own_deadlines (disarmed 2 b.armed)) cleared;
+          no_socket = h.no_socket;
+          none_asked = h.none_asked;
+          unused = h.unused;
+        },
+        refl,
+      );
     }
 
 thread-left : (p : Progress) → without 0 (threads_at p) ≡ []

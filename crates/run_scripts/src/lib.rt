@@ -6,5 +6,5 @@ mod script;
 mod service;
 mod steps;
 
-pub use run::{Progress, ScriptedRun};
+pub use run::ScriptedRun;
 pub use script::{Script, Step};
