@@ -11,6 +11,7 @@ use lua_run::{LuaRun, Site};
 use resty_world::{Listened, World};
 use site_load::SiteMachine;
 use std::alloc::Global;
+use std::mem::forget;
 
 /// Listens on the site's port, and serves at most so many events of the world.
 pub fn serve_live<W: World>(
@@ -25,8 +26,15 @@ pub fn serve_live<W: World>(
 {
     match live.listen(alloc, site.conf.port) {
         Listened::Up => {}
-        Listened::Failed => return Ending::WorldFault,
-        Listened::Memory => return Ending::Memory,
+        // the process ends next, and gives all of its memory back at once
+        Listened::Failed => {
+            forget(site);
+            return Ending::WorldFault;
+        }
+        Listened::Memory => {
+            forget(site);
+            return Ending::Memory;
+        }
     }
     Ending::by(serve::<Connection<LuaRun<SiteMachine>>, W>(alloc, site, live, events))
 }

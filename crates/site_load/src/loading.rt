@@ -115,9 +115,15 @@ pub fn load_site<F: Files>(
 {
     let file = Bytes::from_vec(Vec::from_slice(alloc, name.as_bytes())?)?;
     let text = read_file(alloc, files, name, &file)?;
-    let SiteTexts { conf, mut set } = read_texts(alloc, file, text.as_slice())?;
+    let read = read_texts(alloc, file, text.as_slice());
+    drop(text);
+    let SiteTexts { conf, mut set } = read?;
     match read_modules(alloc, files, &conf.package, &mut set) {
         Ok(()) => start_site(alloc, conf, set),
-        Err(fault) => Err(of_modules(fault)),
+        Err(fault) => {
+            drop(conf);
+            drop(set);
+            Err(of_modules(fault))
+        }
     }
 }

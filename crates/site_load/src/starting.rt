@@ -38,7 +38,9 @@ pub(crate) fn start_site(
     let (program, chunks) = set.into_parts();
     let machine = machine_of(program);
     let init = init_among(chunks.blocks.as_slice().len(), conf.init);
-    match start_lua(alloc, &machine, NATIVES, &chunks, init) {
+    let started = start_lua(alloc, &machine, NATIVES, &chunks, init);
+    drop(chunks);
+    match started {
         Ok(LuaSite { store, blocks }) => {
             let mut closures = Listing::new(alloc);
             closures.append(blocks)?;
@@ -49,7 +51,15 @@ pub(crate) fn start_site(
                 blocks: closures,
             })
         }
-        Err(LuaSiteFault::Init(message)) => Err(SiteFault::Init(message)),
-        Err(LuaSiteFault::Memory) => Err(SiteFault::Memory),
+        Err(LuaSiteFault::Init(message)) => {
+            drop(conf);
+            drop(machine);
+            Err(SiteFault::Init(message))
+        }
+        Err(LuaSiteFault::Memory) => {
+            drop(conf);
+            drop(machine);
+            Err(SiteFault::Memory)
+        }
     }
 }
