@@ -1,11 +1,10 @@
 -- How serving a schedule ends.
-use Rattle.std.proofs.Common.{◌≡◌, ◌⊎◌, inl, inr, ℕ, ◌<◌, false, List, take, drop, refl, sym, subst, ◌∙◌, arith}
+use Rattle.std.proofs.Common.{◌≡◌, ◌⊎◌, inl, inr, ℕ, false, List, take, drop, refl, sym, subst, ◌∙◌, arith}
 use Rattle.std.specs.List.{list_any}
 use Rattle.std.proofs.lemmas.List.{take-append-drop}
-use Rattle.resty_base.specs.Counting.{Rose}
 use Rattle.resty_world.specs.declared.entry.Entry.{Entry}
 use Rattle.resty_world.specs.declared.schedule_line.SchedLine.{SchedLine}
-use Rattle.resty_world.specs.Given.{IsBadLine}
+use Rattle.resty_world.specs.Given.{IsBadLine, EndsByFailing}
 use Rattle.schedule_text.specs.Fitting.{IsSchedule}
 use Rattle.schedule.specs.declared.replay.Replay.{Replay}
 use Rattle.schedule.specs.Counts.{counted}
@@ -18,9 +17,9 @@ use Rattle.engine_base.specs.Right.{IsRight}
 use Rattle.engine.specs.declared.server.Ended.{Ended}
 use Rattle.engine.specs.declared.server.Ended.TheVariants as ended
 use Rattle.engine.specs.Endings.{EndsBy, HasAtMost, NothingFailed, WorldFailed, LogFailed}
-use Rattle.commands.specs.Run.{IsRun, RunsTo, EndsRun, IsUnknownAt, NothingFailedIn, TellsFault}
+use Rattle.commands.specs.Run.{IsRun, RunsTo, EndsRun, IsUnknownAt, NothingFailedIn, FailedNext}
 use Rattle.commands.proofs.Ranged.{history-ranged}
-use Rattle.commands.proofs.Story.{AreRanged, schedule-ranged, first-ranged, no-fail-next, tells-fault, stopped-newest}
+use Rattle.commands.proofs.Story.{AreRanged, schedule-ranged, first-ranged, no-fail-next, stop-given, stopped-newest}
 
 -- the world still goes by these lines, and tells those that were passed
 pub record Tells (lines : List SchedLine) (world : Replay) : Type 0 where
@@ -36,9 +35,6 @@ tells lines old world fresh stands later = record {
 none-counted : (n : ℕ) → counted n ≡ 0 → n ≡ 0
 none-counted n none = omega (arith, none)
 
-some-counted : (n : ℕ) → 0 < counted n → 0 < n
-some-counted n some = omega (arith, some)
-
 module _ {J : Type 0} (b : Behavior J) (lines : List SchedLine) (old world : Replay) (fresh : IsFresh lines (book_of old)) (told : Tells lines world) where
   abbrev history : List Entry
   history = world.history.entries
@@ -53,22 +49,20 @@ module _ {J : Type 0} (b : Behavior J) (lines : List SchedLine) (old world : Rep
         logs = none.logs;
       }
 
-  -- the world failed by a line, or a log line wasn't written
-  faulted : Rose (book_of old).faults (book_of world).faults → WorldFailed history ⊎ LogFailed history → (TellsFault lines world.passed × WorldFailed history) ⊎ LogFailed history
-  faulted rose failed = elim failed [
-    | inl world ↦ inl (by-line world, world)
+  -- the world failed at a line `fail next`, or a log line wasn't written
+  faulted : IsSchedule lines → WorldFailed (book_of world) history ⊎ LogFailed history → FailedNext (take world.passed lines) history ⊎ LogFailed history
+  faulted made failed = elim failed [
+    | inl failed ↦ inl (record { line = at-line failed; no_stop = failed.no_stop; logs = failed.logs })
     | inr log ↦ inr log
   ]
     where
-      by-line : WorldFailed history → TellsFault lines world.passed
-      by-line failed =
+      at-line : WorldFailed (book_of world) history → EndsByFailing (take world.passed lines)
+      at-line failed =
           let s = told.stands in
-          let was = fresh.faults in
-          let rises = rose.risen in
-          let is = s.faults in
-          let some : 0 < counted (faults_in s.steps) = omega (arith, was, rises, is) in
-          tells-fault lines world.passed s.steps (rw told.course at s.passed) (rw told.course at s.right) (rw s.history failed.no_stop) (rw s.history failed.logs)
-          (some-counted (faults_in s.steps) some)
+          elim failed.fault [
+            | inl line ↦ subst (λ (ls : List SchedLine). EndsByFailing (take world.passed ls)) told.course line
+            | inr all ↦ absurd (stop-given world.course s.steps s.right made.before (s.passed ∙ all ∙ told.course ∙ made.ends) (rw s.history failed.no_stop))
+          ]
 
   -- a bad line names an id that was never there
   unknown-at : (n : ℕ) → IsBadLine (book_of world) n → IsUnknownAt lines world.passed history
@@ -112,7 +106,7 @@ module _ {J : Type 0} (b : Behavior J) (lines : List SchedLine) (old world : Rep
   ends_run stop made run events ended.Stopped ends some =
       (stop lines world.passed history _ made run.told (stopped-newest history ends.0), ends.0, well ends.1)
   ends_run stop made run events (ended.Spent n) ends some = (ends.0, ends.1, well ends.2)
-  ends_run stop made run events ended.WorldFault ends some = faulted ends.0 ends.1
+  ends_run stop made run events ended.WorldFault ends some = faulted made ends.1
   ends_run stop made run events (ended.BadLine n) ends some = (ends.0.next, unknown-at n ends.0, well ends.1)
   ends_run stop made run events ended.Memory ends some = absurd (some refl)
 

@@ -1,8 +1,7 @@
 -- What the steps of a replay make of the lines that it passes.
-use Rattle.std.proofs.Common.{◌≡◌, ◌⊎◌, inl, inr, ℕ, suc, ◌+◌, ◌<◌, Bool, true, false, ◌||◌, cond, List, [], ◌∷◌, ◌++◌, take, refl, Option, Some, None, slice_get, sym, ap, subst, ◌∙◌, arith}
-use Rattle.std.specs.Prelude.{◌&&◌}
+use Rattle.std.proofs.Common.{◌≡◌, ℕ, suc, ◌+◌, Bool, true, false, ◌||◌, cond, List, [], ◌∷◌, ◌++◌, length, refl, Option, Some, None, slice_get, ap, subst, ◌∙◌, arith, length-append}
+use Rattle.std.proofs.lemmas.List.{same_from_push}
 use Rattle.std.specs.List.{list_any}
-use Rattle.resty_base.specs.BoolLaws.{by_test}
 use Rattle.resty_world.specs.declared.event.Event.{Event}
 use Rattle.resty_world.specs.declared.event.Event.TheVariants as event
 use Rattle.resty_world.specs.declared.entry.Entry.{Entry}
@@ -11,9 +10,8 @@ use Rattle.resty_world.specs.declared.schedule_line.SchedLine.{SchedLine}
 use Rattle.resty_world.specs.declared.schedule_line.SchedLine.TheVariants as line
 use Rattle.schedule_text.specs.Fitting.{IsSchedule}
 use Rattle.schedule_text.specs.Ranges.{IsBytes, IsEvent, IsLine}
-use Rattle.schedule.specs.Steps.{Step, Passed, Answered, Listened, AskedAtBadLine, AskedAtEnd, AreSteps, history_of, lines_of, given_by, is_skipped, begins_by_failing, newest_given, IsAnswer, one_if, is_fail_next, is_failed_log, faults_in}
-use Rattle.engine.specs.Endings.{events_of, HasNoStop, HasNoFailedLog, IsStopped}
-use Rattle.commands.specs.Run.{TellsFault}
+use Rattle.schedule.specs.Steps.{Step, Passed, Answered, Listened, AskedAtBadLine, AskedAtEnd, AreSteps, history_of, lines_of, given_by, is_skipped, newest_given, IsAnswer, one_if, is_fail_next, is_failed_log, faults_in}
+use Rattle.engine.specs.Endings.{events_of, HasNoStop, IsStopped}
 
 -- each line is within its ranges
 abbrev pub AreRanged : List SchedLine → Type 0
@@ -101,57 +99,12 @@ newest-event (entry.Start n ∷ h) = newest-event h
 newest-event (entry.Turned c ∷ h) = newest-event h
 newest-event (entry.Dropped s ∷ h) = newest-event h
 
-no-stop-first : (es : List Event) → HasNoStop es → newest es ≡ Some event.Stop → ⊥
-no-stop-first [] none is = let wrong : None ≡ Some event.Stop = is in cc
-no-stop-first (e ∷ es) none is =
-    let same : e ≡ event.Stop = let both : Some e ≡ Some event.Stop = is in cc in
-    rw same at none
-
-pub no-stop : (h : List Entry) → HasNoStop (events_of h) → newest_given h ≡ Some event.Stop → ⊥
-no-stop h none is = no-stop-first (events_of h) none (sym (newest-event h) ∙ is)
-
 pub stopped-newest : (h : List Entry) → IsStopped h → newest_given h ≡ Some event.Stop
 stopped-newest h stopped = newest-event h ∙ ap newest stopped.1
-
-no-stop-rest : (e : Event) (es : List Event) → HasNoStop (e ∷ es) → HasNoStop es
-no-stop-rest (event.Arrive k) es none = none
-no-stop-rest (event.Bytes i bytes) es none = none
-no-stop-rest (event.Ended i) es none = none
-no-stop-rest (event.Broken i) es none = none
-no-stop-rest (event.Ready i) es none = none
-no-stop-rest (event.Dialled n) es none = none
-no-stop-rest (event.Refused n) es none = none
-no-stop-rest (event.Moment t) es none = none
-no-stop-rest event.Stop es none = absurd none
-no-stop-rest event.Fault es none = none
-no-stop-rest (event.BadLine n) es none = none
-no-stop-rest event.Memory es none = none
-
-older-none : (b : Bool) (e : Event) (h : List Entry) → HasNoStop (events_of ((cond b [] (entry.Given e ∷ [])) ++ h)) → HasNoStop (events_of h)
-older-none true e h none = none
-older-none false e h none = no-stop-rest e (events_of h) none
 
 answer-events : (steps : List Step) (e : Entry) (n : ℕ) (h : List Entry) → IsAnswer steps e n → events_of (e ∷ h) ≡ events_of h
 answer-events steps (entry.Given e) n h right = absurd right
 answer-events steps e n h right = refl
-
--- what is told before a line is told with it
-older-events : (h : List Entry) (l : SchedLine) → HasNoStop (events_of (given_by h l ++ h)) → HasNoStop (events_of h)
-older-events h (line.Given e) none = older-none (is_skipped h (line.Given e)) e h none
-older-events h l none = none
-
-given-logs : (b : Bool) (e : Event) (h : List Entry) → HasNoFailedLog ((cond b [] (entry.Given e ∷ [])) ++ h) → HasNoFailedLog h
-given-logs true e h none = none
-given-logs false e h none = none
-
-older-logs : (h : List Entry) (l : SchedLine) → HasNoFailedLog (given_by h l ++ h) → HasNoFailedLog h
-older-logs h (line.Given e) none = given-logs (is_skipped h (line.Given e)) e h none
-older-logs h l none = none
-
--- and before an answer
-answer-logs : (e : Entry) (h : List Entry) → HasNoFailedLog (e ∷ h) → (is_failed_log e ≡ false) × HasNoFailedLog h
-answer-logs (entry.Log who text false) h none = absurd (let no : true ≡ false = none in cc)
-answer-logs e h none = (refl, none)
 
 -- whether one of the lines is `fail next`
 one-more : (xs : List SchedLine) (l : SchedLine) → list_any is_fail_next (xs ++ l ∷ []) ≡ (list_any is_fail_next xs || is_fail_next l)
@@ -185,38 +138,14 @@ no-fail-next (Listened port failed ∷ steps) none = no-fail-next steps (none-bo
 no-fail-next (AskedAtBadLine ∷ steps) none = no-fail-next steps (omega (arith, none))
 no-fail-next (AskedAtEnd ∷ steps) none = no-fail-next steps (omega (arith, none))
 
-first : (b c : Bool) → (b && c) ≡ true → b ≡ true
-first true c is = refl
-first false c is = absurd (let no : false ≡ true = is in cc)
-
-some-before : (n : ℕ) (b : Bool) → b ≡ false → 0 < n + one_if b → 0 < n
-some-before n true is some = absurd (let wrong : true ≡ false = is in cc)
-some-before n false is some = omega (arith, some)
-
--- a fault of the world before Stop is one of which a line tells
-told-fault : (schedule : List SchedLine) (steps : List Step) → AreSteps schedule steps → HasNoStop (events_of (history_of steps)) → HasNoFailedLog (history_of steps) → 0 < faults_in steps
-    → (list_any is_fail_next (lines_of steps) ≡ true) ⊎ (begins_by_failing schedule ≡ true)
-told-fault schedule [] right none logs some = absurd (omega (arith, some))
-told-fault schedule (Passed l ∷ steps) right none logs some =
-    by_test (is_fail_next l)
-    (λ next. inl (one-more (lines_of steps) l ∙ ap (λ b. list_any is_fail_next (lines_of steps) || b) next ∙ last (list_any is_fail_next (lines_of steps))))
-    (λ other. elim (told-fault schedule steps right.0 (older-events (history_of steps) l none) (older-logs (history_of steps) l logs) (some-before (faults_in steps) (is_fail_next l) other some)) [
-      | inl before ↦ inl (one-more (lines_of steps) l ∙ ap (λ b. b || is_fail_next l) before)
-      | inr begins ↦ inr begins
-    ])
-  where
-    last : (b : Bool) → (b || true) ≡ true
-    last true = refl
-    last false = refl
-told-fault schedule (Answered e n ∷ steps) right none logs some =
-    let written = answer-logs e (history_of steps) logs in
-    told-fault schedule steps right.0 (subst HasNoStop (answer-events steps e n (history_of steps) right.1.1) none) written.1 (some-before (faults_in steps) (is_failed_log e) written.0 some)
-told-fault schedule (Listened port false ∷ steps) right none logs some = told-fault schedule steps right.0 none logs (omega (arith, some))
-told-fault schedule (Listened port true ∷ steps) right none logs some = inr (first (begins_by_failing schedule) _ (sym right.1.0))
-told-fault schedule (AskedAtBadLine ∷ steps) right none logs some = told-fault schedule steps right.0 none logs (omega (arith, some))
-told-fault schedule (AskedAtEnd ∷ steps) right none logs some = absurd (no-stop (history_of steps) none right.1)
-
-pub tells-fault : (lines : List SchedLine) (passed : ℕ) (steps : List Step) → lines_of steps ≡ take passed lines → AreSteps lines steps → HasNoStop (events_of (history_of steps))
-    → HasNoFailedLog (history_of steps) → 0 < faults_in steps → TellsFault lines passed
-tells-fault lines passed steps here right none logs some =
-    subst (λ (ls : List SchedLine). (list_any is_fail_next ls ≡ true) ⊎ (begins_by_failing lines ≡ true)) here (told-fault lines steps right none logs some)
+-- where the last line that was passed is `stop`, Stop was given
+pub stop-given : (schedule : List SchedLine) (steps : List Step) → AreSteps schedule steps → (before : List SchedLine) → lines_of steps ≡ before ++ line.Given event.Stop ∷ []
+    → HasNoStop (events_of (history_of steps)) → ⊥
+stop-given schedule [] right before is none = let wrong = ap length is in let sum = length-append before (line.Given event.Stop ∷ []) in omega (arith, wrong, sum)
+stop-given schedule (Passed l ∷ steps) right before is none =
+    let same = (same_from_push (lines_of steps) before l (line.Given event.Stop) is).1 in
+    subst (λ (x : SchedLine). HasNoStop (events_of (given_by (history_of steps) x ++ history_of steps))) same none
+stop-given schedule (Answered e n ∷ steps) right before is none = stop-given schedule steps right.0 before is (subst HasNoStop (answer-events steps e n (history_of steps) right.1.1) none)
+stop-given schedule (Listened port failed ∷ steps) right before is none = stop-given schedule steps right.0 before is none
+stop-given schedule (AskedAtBadLine ∷ steps) right before is none = stop-given schedule steps right.0 before is none
+stop-given schedule (AskedAtEnd ∷ steps) right before is none = stop-given schedule steps right.0 before is none

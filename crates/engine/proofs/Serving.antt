@@ -10,7 +10,7 @@ use Rattle.resty_world.specs.declared.entry.Entry.TheVariants as entry
 use Rattle.resty_world.specs.declared.event.Event.{Event}
 use Rattle.resty_world.specs.declared.event.Event.TheVariants as event
 use Rattle.resty_world.specs.Book.{Book, told}
-use Rattle.resty_world.specs.Given.{is_event, is_fault, arrives, arrives_strand, ends, Gave}
+use Rattle.resty_world.specs.Given.{is_event, is_fault, arrives, arrives_strand, ends, IsCaused, Gave}
 use Rattle.strand_contract.specs.Behaviors.{Behavior, Meaning}
 use Rattle.strand_contract.specs.Laws.{Keeps}
 use Rattle.executions.specs.Histories.{external, offered_lengths}
@@ -147,8 +147,8 @@ module _ (e : Event) (old given later : Option (List Entry)) (gave : given ≡ t
       by None (Some now) kept none = absurd (none-some (has_failed_log now) kept)
       by (Some was) (Some now) kept none = some-list (has_failed_log now) (has_failed_log was) kept ∙ none
 
-  pub unlogged : IfSome old HasNoFailedLog → IfSome later HasFailedLog → IfSome later (λ h. WorldFailed h ⊎ LogFailed h)
-  unlogged none failed = both-some later HasFailedLog _ _ (λ h f b. inr (record { failed = f; before = b })) failed (before none)
+  pub unlogged : (book : Book) → IfSome old HasNoFailedLog → IfSome later HasFailedLog → IfSome later (λ h. WorldFailed book h ⊎ LogFailed h)
+  unlogged book none failed = both-some later HasFailedLog _ _ (λ h f b. inr (record { failed = f; before = b })) failed (before none)
 
 -- nothing was given
 module _ (old new : Book) (e : Event) (gave : Gave old new e) (none : is_event e ≡ false) where
@@ -162,9 +162,9 @@ module _ (old new : Book) (e : Event) (gave : Gave old new e) (none : is_event e
   pub still-few : (n events : ℕ) → n ≤ events → IfSome old.history (IsSpent n) → IfSome new.history (HasAtMost events)
   still-few n events less = still (IsSpent n) (HasAtMost events) (λ h spent. let count = spent.count in let all : length (events_of h) ≤ events = omega (arith, count, less) in all)
 
-  pub world-failed : (n : ℕ) → IfSome old.history (IsSpent n) → IfSome old.history HasNoFailedLog → IfSome new.history (λ h. WorldFailed h ⊎ LogFailed h)
-  world-failed n spent logs =
-      both-some new.history (λ h. HasNoStop (events_of h)) HasNoFailedLog _ (λ h s l. inl (record { no_stop = s; logs = l })) (still (IsSpent n) _ (λ h s. s.no_stop) spent) (still-written logs)
+  pub world-failed : IsCaused new event.Fault → (n : ℕ) → IfSome old.history (IsSpent n) → IfSome old.history HasNoFailedLog → IfSome new.history (λ h. WorldFailed new h ⊎ LogFailed h)
+  world-failed caused n spent logs =
+      both-some new.history (λ h. HasNoStop (events_of h)) HasNoFailedLog _ (λ h s l. inl (record { fault = caused; no_stop = s; logs = l })) (still (IsSpent n) _ (λ h s. s.no_stop) spent) (still-written logs)
 
 -- nothing is told of a fresh world
 pub fresh-spent : (history : Option (List Entry)) → Tells history [] → IfSome history (IsSpent 0)

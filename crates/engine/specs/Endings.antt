@@ -6,7 +6,7 @@ use Rattle.resty_world.specs.declared.entry.Entry.TheVariants as entry
 use Rattle.resty_world.specs.declared.event.Event.{Event}
 use Rattle.resty_world.specs.declared.event.Event.TheVariants as event
 use Rattle.resty_world.specs.Book.{Book}
-use Rattle.resty_world.specs.Given.{IsBadLine}
+use Rattle.resty_world.specs.Given.{IsBadLine, IsCaused}
 pub use Rattle.engine_turns.specs.Worked.{to_event, has_failed_log, HasFailedLog}
 use Rattle.engine.specs.declared.server.Ended.{Ended}
 use Rattle.engine.specs.declared.server.Ended.TheVariants as ended
@@ -45,8 +45,9 @@ pub record NothingFailed (old new : Book) : Type 0 where
   pub faults : new.faults ≡ old.faults
   pub logs : IfSome new.history HasNoFailedLog
 
--- the world failed where Stop was still to be given, and each log line was written
-pub record WorldFailed (h : List Entry) : Type 0 where
+-- the world failed as its schedule has it, where Stop was still to be given, and each log line was written
+pub record WorldFailed (book : Book) (h : List Entry) : Type 0 where
+  pub fault : IsCaused book event.Fault
   pub no_stop : HasNoStop (events_of h)
   pub logs : HasNoFailedLog h
 
@@ -59,6 +60,6 @@ pub record LogFailed (h : List Entry) : Type 0 where
 abbrev pub EndsBy : ℕ → Book → Book → Ended → Type 0
 EndsBy events old new ended.Stopped = IfSome new.history IsStopped × NothingFailed old new
 EndsBy events old new (ended.Spent n) = (n ≡ events) × IfSome new.history (IsSpent events) × NothingFailed old new
-EndsBy events old new ended.WorldFault = Rose old.faults new.faults × IfSome new.history (λ h. WorldFailed h ⊎ LogFailed h)
+EndsBy events old new ended.WorldFault = Rose old.faults new.faults × IfSome new.history (λ h. WorldFailed new h ⊎ LogFailed h)
 EndsBy events old new (ended.BadLine n) = IsBadLine new n × NothingFailed old new
 EndsBy events old new ended.Memory = NothingFailed old new

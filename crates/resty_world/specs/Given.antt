@@ -1,6 +1,6 @@
 -- The events that a world gives.
-use Rattle.std.specs.Prelude.{◌≡◌, ℕ, ◌+◌, ◌<◌, ◌≤◌, Bool, true, false, not, ◌&&◌, nat_lt, nat_le}
-use Rattle.std.specs.Prelude.{List, [], ◌∷◌, length, slice_get, Option, Some, None, if◌then◌else◌}
+use Rattle.std.specs.Prelude.{◌≡◌, ◌⊎◌, ℕ, ◌+◌, ◌<◌, ◌≤◌, Bool, true, false, not, ◌&&◌, nat_lt, nat_le}
+use Rattle.std.specs.Prelude.{List, [], ◌∷◌, ◌++◌, length, take, slice_get, Option, Some, None, IfSome, if◌then◌else◌}
 use Rattle.resty_base.specs.Counting.{RoseWhere}
 use Rattle.resty_base.specs.declared.names.Id.{Id}
 use Rattle.resty_base.specs.declared.names.Id.TheVariants as id
@@ -89,10 +89,16 @@ pub record IsBadLine (book : Book) (n : ℕ) : Type 0 where
   pub here : slice_get lines book.passed ≡ Some bad
   pub absent : names_absent book.arrivals book.dials (named_id bad) ≡ true
 
--- a line is called bad only where it is
-abbrev pub IsBad : Book → Event → Type 0
-IsBad book (event.BadLine n) = IsBadLine book n
-IsBad book e = Unit {0}
+-- the last of these lines is `fail next`
+abbrev pub EndsByFailing : List SchedLine → Type 0
+EndsByFailing lines = (before : List SchedLine) × (lines ≡ before ++ line.FailNext ∷ [])
+
+-- Where a world goes by a schedule, a line is called bad only where it is, and it fails only where the last line that was passed has it fail, or
+-- where no line is left.
+abbrev pub IsCaused : Book → Event → Type 0
+IsCaused book (event.BadLine n) = IsBadLine book n
+IsCaused book event.Fault = IfSome book.schedule (λ lines. EndsByFailing (take book.passed lines) ⊎ (take book.passed lines ≡ lines))
+IsCaused book e = Unit {0}
 
 -- the last moment that a world gives
 abbrev pub last_moment : ℕ
@@ -120,7 +126,7 @@ pub record Gave (old new : Book) (e : Event) : Type 0 where
   pub schedule : new.schedule ≡ old.schedule
   pub passed : old.passed ≤ new.passed
   pub fit : IsFit old e
-  pub bad : IsBad new e
+  pub caused : IsCaused new e
   pub is_open : (x : Id) → new.is_open x ≡ (if arrives e x then true else old.is_open x)
   pub has_ended : (x : Id) → new.has_ended x ≡ (if arrives e x then false else if ends e x then true else old.has_ended x)
   pub id_aside : (x : Id) → new.id_aside x ≡ (if arrives e x then true else old.id_aside x)

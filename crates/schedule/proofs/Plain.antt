@@ -11,7 +11,7 @@ use Rattle.resty_world.specs.declared.entry.Entry.TheVariants as entry
 use Rattle.resty_world.specs.declared.schedule_line.SchedLine.{SchedLine}
 use Rattle.resty_world.specs.declared.schedule_line.SchedLine.TheVariants as line
 use Rattle.resty_world.specs.Book.{Book}
-use Rattle.resty_world.specs.Given.{IsFit, IsBad, given_entry, arrives, arrives_strand, arrivals_of, ends, is_fault, is_break, named_id, names_absent}
+use Rattle.resty_world.specs.Given.{IsFit, IsCaused, given_entry, arrives, arrives_strand, arrivals_of, ends, is_fault, is_break, named_id, names_absent}
 use Rattle.schedule_text.specs.Fitting.{Fits}
 use Rattle.schedule_text.specs.Lines.{is_arrival}
 use Rattle.schedule.specs.declared.replay.Replay.{Replay}
@@ -25,7 +25,7 @@ use Rattle.schedule.proofs.KnowingLemmas.{open_where_due, first-off}
 
 pub record Plain (world : Replay) (e : Event) : Type 0 where
   pub fit : IsFit (book_of world) e
-  pub not_bad : (book : Book) → IsBad book e
+  pub caused : (book : Book) → IsCaused book e
   pub entries : given_entry e ≡ entry.Given e ∷ []
   pub no_id : (x : Id) → arrives e x ≡ false
   pub no_strand : (s : StrandId) → arrives_strand e s ≡ false
@@ -58,7 +58,7 @@ plain world before (event.BadLine n) fits there due not_arrive not_ended not_bro
 plain world before event.Memory fits there due not_arrive not_ended not_broken = absurd fits.ranged
 plain world before (event.Bytes i bytes) fits there due not_arrive not_ended not_broken = record {
   fit = (open_where_due world.peers world.history.entries i _ world.known there due, not_ended_where_due world.peers world.history.entries i world.known due, fits.ranged.1.some, fits.ranged.1.within);
-  not_bad = λ book. tt;
+  caused = λ book. tt;
   entries = refl;
   no_id = λ x. refl;
   no_strand = λ s. refl;
@@ -73,7 +73,7 @@ plain world before (event.Bytes i bytes) fits there due not_arrive not_ended not
 }
 plain world before (event.Ready i) fits there due not_arrive not_ended not_broken = record {
   fit = open_where_due world.peers world.history.entries i false world.known there due;
-  not_bad = λ book. tt;
+  caused = λ book. tt;
   entries = refl;
   no_id = λ x. refl;
   no_strand = λ s. refl;
@@ -88,7 +88,7 @@ plain world before (event.Ready i) fits there due not_arrive not_ended not_broke
 }
 plain world before (event.Dialled n) fits there due not_arrive not_ended not_broken = record {
   fit = open_where_due world.peers world.history.entries (id.Sock n) false world.known there due;
-  not_bad = λ book. tt;
+  caused = λ book. tt;
   entries = refl;
   no_id = λ x. refl;
   no_strand = λ s. refl;
@@ -103,7 +103,7 @@ plain world before (event.Dialled n) fits there due not_arrive not_ended not_bro
 }
 plain world before (event.Refused n) fits there due not_arrive not_ended not_broken = record {
   fit = open_where_due world.peers world.history.entries (id.Sock n) false world.known there due;
-  not_bad = λ book. tt;
+  caused = λ book. tt;
   entries = refl;
   no_id = λ x. refl;
   no_strand = λ s. refl;
@@ -118,7 +118,7 @@ plain world before (event.Refused n) fits there due not_arrive not_ended not_bro
 }
 plain world before (event.Moment t) fits there due not_arrive not_ended not_broken = record {
   fit = fits.ranged;
-  not_bad = λ book. tt;
+  caused = λ book. tt;
   entries = refl;
   no_id = λ x. refl;
   no_strand = λ s. refl;
@@ -133,7 +133,7 @@ plain world before (event.Moment t) fits there due not_arrive not_ended not_brok
 }
 plain world before event.Stop fits there due not_arrive not_ended not_broken = record {
   fit = tt;
-  not_bad = λ book. tt;
+  caused = λ book. tt;
   entries = refl;
   no_id = λ x. refl;
   no_strand = λ s. refl;

@@ -32,7 +32,7 @@ pub returns-in-Fault-clause-ended : goal.returns-in-Fault-clause-ended
 returns-in-Fault-clause-ended g c =
     let i = c.loop-given.invariant in
     let gave = c.in-Fault.ensures.gave in
-    (rw i.faults at gave.faults, world-failed (g.W.World.book c.loop-given.world) (g.W.World.book c.next_event.new.self) event.Fault gave refl c.loop-given.given i.spent i.logs)
+    (rw i.faults at gave.faults, world-failed (g.W.World.book c.loop-given.world) (g.W.World.book c.next_event.new.self) event.Fault gave refl gave.caused c.loop-given.given i.spent i.logs)
 
 pub returns-in-BadLine-clause-right : goal.returns-in-BadLine-clause-right
 returns-in-BadLine-clause-right g c = right-still _ c.loop-given.engine (g.W.World.book c.loop-given.world) _ (event.BadLine c.in-BadLine.line) (g.met.S.StrandContract.keeps c.args.site) c.loop-given.invariant.rests c.in-BadLine.ensures.gave refl
@@ -46,7 +46,7 @@ pub returns-in-BadLine-clause-ended : goal.returns-in-BadLine-clause-ended
 returns-in-BadLine-clause-ended g c =
     let i = c.loop-given.invariant in
     let gave = c.in-BadLine.ensures.gave in
-    (gave.bad, record { faults = gave.faults ∙ i.faults; logs = still-written (g.W.World.book c.loop-given.world) (g.W.World.book c.next_event.new.self) (event.BadLine c.in-BadLine.line) gave refl i.logs })
+    (gave.caused, record { faults = gave.faults ∙ i.faults; logs = still-written (g.W.World.book c.loop-given.world) (g.W.World.book c.next_event.new.self) (event.BadLine c.in-BadLine.line) gave refl i.logs })
 
 pub returns-in-Memory-clause-right : goal.returns-in-Memory-clause-right
 returns-in-Memory-clause-right g c = right-still _ c.loop-given.engine (g.W.World.book c.loop-given.world) _ event.Memory (g.met.S.StrandContract.keeps c.args.site) c.loop-given.invariant.rests c.in-Memory.ensures.gave refl
@@ -74,7 +74,7 @@ returns-in-LogFailed g c =
     record {
       right = engine-right _ c.step.new.self (g.W.World.book c.step.new.world) (g.met.S.StrandContract.keeps c.args.site) s.rests;
       few = few c.in_default.event _ _ _ gave-history s.goes.event c.loop-given.given c.args.events less i.spent;
-      ended = (rw faults at s.stepped.0, unlogged c.in_default.event _ _ _ gave-history s.goes.event i.logs s.stepped.1);
+      ended = (rw faults at s.stepped.0, unlogged c.in_default.event _ _ _ gave-history s.goes.event (g.W.World.book c.step.new.world) i.logs s.stepped.1);
       port = s.goes.port ∙ (gave.port ∙ i.port);
       same = g.met.W.World.joins _ _ _ (g.met.W.World.joins _ _ _ i.same c.next_event.ensures.same) s.goes.later;
     }

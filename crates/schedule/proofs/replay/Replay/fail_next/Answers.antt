@@ -1,8 +1,9 @@
-use Rattle.std.proofs.Common.{◌≡◌, false, slice_get, refl, sym, ◌∙◌, arith}
+use Rattle.std.proofs.Common.{◌≡◌, false, take, slice_get, refl, sym, ◌∙◌, inl, arith}
 use Rattle.std.proofs.lemmas.Option.{slice_get_within}
 use Rattle.resty_world.specs.declared.schedule_line.SchedLine.TheVariants as line
 use Rattle.schedule.proofs.NextLine.{fault_ahead}
-use Rattle.schedule.proofs.Passing.{arrivals-more}
+use Rattle.schedule.proofs.Passing.{arrivals-more, take-more}
+use Rattle.schedule.proofs.Running.{gave-fault}
 use Rattle.schedule.specs.Steps.{within_asking}
 use Rattle.schedule.proofs.Standing.{passes}
 use Rattle.schedule.proofs.replay.Replay.fail_next.Goals as goal
@@ -29,6 +30,12 @@ invariant_of-self c =
       room = world.room;
       counted = world.counted;
     }
+
+pub returns-clause-gave : goal.returns-clause-gave
+returns-clause-gave c =
+    let world = c.args.self.now in
+    let here = fault_ahead world.history.entries (slice_get world.course world.passed) c.requires in
+    gave-fault world _ refl (omega arith) c.one_more-self.ensures.rose (inl (take world.passed world.course, take-more world.course world.passed line.FailNext here))
 
 pub returns-clause-answered : goal.returns-clause-answered
 returns-clause-answered c =
