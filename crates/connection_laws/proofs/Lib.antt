@@ -9,5 +9,7 @@ pub mod Executing
 pub mod Said
 pub mod Blind
 pub mod Hanging
+pub mod Alike
+pub mod Renumbering
 pub mod Numbering
 pub mod Written
