@@ -19,7 +19,7 @@ use Rattle.run_contract.specs.Calls.{Meaning, size_of, is_own_turn, Took, Begins
 use Rattle.run_contract.specs.Conditions.{MayCome, entered_as}
 use Rattle.run_contract.specs.Deeds.{Deed, Turn, taken, within, made_if}
 use Rattle.run_scripts.specs.declared.run.Progress.{Progress}
-use Rattle.run_scripts.specs.declared.run.Progress.TheVariants.{Counting, Asked, Sleeping, Woken, Gone, Over}
+use Rattle.run_scripts.specs.declared.run.Progress.TheVariants.{Asked, Sleeping, Woken, Gone, Over}
 use Rattle.run_scripts.specs.declared.run.ScriptedRun.{ScriptedRun}
 use Rattle.run_scripts.specs.declared.script.Script.{Script}
 use Rattle.run_scripts.specs.declared.script.Step.{Step}
