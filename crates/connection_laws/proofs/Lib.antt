@@ -2,6 +2,8 @@ pub mod Owns
 pub mod Leaving
 pub mod Saying
 pub mod Places
+pub mod Words
+pub mod Good
 pub mod Going
 pub mod Replying
 pub mod Coming
