@@ -1,5 +1,6 @@
 -- What turns of a run come to within those of their connection.
-use Rattle.std.specs.Prelude.{◌≡◌, ℕ, Bool, true, false, Option, Some, None, List, [], ◌∷◌}
+use Rattle.std.specs.Prelude.{Result, Ok, ◌≡◌, ℕ, Bool, true, false, Option, Some, None, List, [], ◌∷◌}
+use Rattle.std.specs.declared.alloc.AllocError.{AllocError}
 use Rattle.client_line.specs.declared.requests.LineOut.{LineOut}
 use Rattle.client_line.specs.declared.requests.LineOut.TheVariants as out
 use Rattle.client_line.specs.Records.{At}
@@ -122,6 +123,10 @@ module _ {R J I : Type 0} (v : View R J I) (now : ℕ) where
   abbrev pub HearsWord : Said → Connection R → Turn J → Connection R → Turn J → Type 0
   HearsWord w c u c' u' = (st : Stage) (ds : List Deed) (a : Asks J) (rest : List (RunAct J)) (did : Performed J (Both I)) (m : Move J (Both I))
       → Toward v (taking st (Say w ∷ ds) a (made.Say w ∷ rest)) did c u (says (service v) now w m) → Toward v (taking (stage_after w st) ds a rest) did c' u' m
+
+  -- where a call went on, what is there is settled; so its turn comes to its end
+  abbrev pub SettlesOn : Result Bool AllocError → Connection R → Turn J → Connection R → Turn J → Type 0
+  SettlesOn went c u c' u' = (on : Bool) × (went ≡ Ok on) × ((did : Performed J (Both I)) → Went v on did c u (settle (service v) now) → Came v did c' u')
 
   -- ---- an answer from the outside
 

@@ -18,6 +18,7 @@ impl<R: ServiceContract> Connection<R> {
     ghost use Rattle.connection_strand.specs.Costs.{unit, Pays, Costs, Settles};
     ghost use Rattle.connection_strand.specs.Kept.{Kept, seen_of_body, waits_of};
     ghost use Rattle.connection_strand.specs.Standing.{Ends, GoesOn, Hears, Steps, IsAt, IsWithin};
+    ghost use Rattle.connection_strand.specs.Turns.{SettlesOn};
 
     /// The run is told this of the body that it asks or waits for.
     fn tell_body(
@@ -233,5 +234,31 @@ impl<R: ServiceContract> Connection<R> {
             goes_on = self.settle_once(turn, alloc, site, now)?;
         }
         Ok(())
+    }
+
+    /// Settles all that is there, where the turn went on so far.
+    pub(crate) fn settle_on(
+        &mut self,
+        turn: &mut Turn<R::Job>,
+        alloc: Global,
+        site: &R::Site,
+        now: Ms,
+        went: Result<bool, AllocError>,
+    ) -> Result<(), AllocError>
+        requires { let view = view_of (R.meaning site.now) (R.serving site.now) in IfOk went (λ on. on ≡ true → IsWithin view self.old turn.old) }
+        ensures moves { let view = view_of (R.meaning site.now) (R.serving site.now) in IfOk result (λ done.
+            SettlesOn view now.0 went self.old turn.old self.new turn.new) }
+        ensures costs { IfOk result (λ done. Costs R.left R.bound 5 self.old turn.old self.new turn.new) }
+    {
+        match went {
+            Ok(goes_on) => {
+                if goes_on {
+                    self.settle_all(turn, alloc, site, now)
+                } else {
+                    Ok(())
+                }
+            }
+            Err(error) => Err(error),
+        }
     }
 }

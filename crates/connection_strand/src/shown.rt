@@ -46,11 +46,8 @@ impl<R: ServiceContract> Connection<R> {
             (λ rest. Look (λ b s. heard_by (service view) now.0 anew (settle (service view) now.0) s.client.came s.client.ended out))
             self.old turn.old self.new turn.new) }
     {
-        let goes_on = self.heard(turn, alloc, site, now, anew, out)?;
-        if !goes_on {
-            return Ok(());
-        }
-        self.settle_all(turn, alloc, site, now)
+        let went = self.heard(turn, alloc, site, now, anew, out);
+        self.settle_on(turn, alloc, site, now, went)
     }
 
     /// Bytes came that are answered so.
@@ -241,11 +238,8 @@ impl<R: ServiceContract> Connection<R> {
         ensures falls { is_of_client seen ≡ false → runs.is_own_turn seen ≡ true →
             IfOk result (λ done. Falls R.left R.bound self.old turn.old self.new turn.new) }
     {
-        let goes_on = self.to_run(turn, alloc, site, now, seen)?;
-        if !goes_on {
-            return Ok(());
-        }
-        self.settle_all(turn, alloc, site, now)
+        let went = self.to_run(turn, alloc, site, now, seen);
+        self.settle_on(turn, alloc, site, now, went)
     }
 
     /// What comes at a socket of the run.

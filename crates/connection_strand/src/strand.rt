@@ -213,11 +213,8 @@ impl<R: ServiceContract> Connection<R> {
             GivesAnswer view now.0 answer self.old turn.old self.new turn.new) }
         ensures falls { IfOk result (λ done. FallsBy R.left R.bound 3 self.old turn.old self.new turn.new) }
     {
-        let goes_on = self.answered(turn, alloc, site, now, answer)?;
-        if !goes_on {
-            return Ok(());
-        }
-        self.settle_all(turn, alloc, site, now)
+        let went = self.answered(turn, alloc, site, now, answer);
+        self.settle_on(turn, alloc, site, now, went)
     }
 
     /// Whether an offer of the client is queued or goes on as the turn begins.
