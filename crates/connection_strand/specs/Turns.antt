@@ -139,10 +139,3 @@ module _ {R J I : Type 0} (v : View R J I) (now : ℕ) where
 
   abbrev pub TakesAnswer : Answer → Connection R → Turn J → Connection R → Turn J → Type 0
   TakesAnswer given c u c' u' = (did : Performed J (Both I)) → IsGiven given did c u → Came v did c' u'
-
-  -- the run is given it, and what is there is settled
-  abbrev pub MayGiveAnswer : Answer → Connection R → Turn J → Type 0
-  MayGiveAnswer given c u = (did : Performed J (Both I)) × Answered given did c u (settle (service v) now)
-
-  abbrev pub GivesAnswer : Answer → Connection R → Turn J → Connection R → Turn J → Type 0
-  GivesAnswer given c u c' u' = (did : Performed J (Both I)) → Answered given did c u (settle (service v) now) → Came v did c' u'

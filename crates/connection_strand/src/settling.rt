@@ -105,30 +105,6 @@ impl<R: ServiceContract> Connection<R> {
         }
     }
 
-    /// What the run asks is answered.
-    fn answer_asked(
-        &mut self,
-        turn: &mut Turn<R::Job>,
-        alloc: Global,
-        site: &R::Site,
-        now: Ms,
-        asking: Asking,
-    ) -> Result<bool, AllocError>
-        requires within { let view = view_of (R.meaning site.now) (R.serving site.now) in IsAt view stage.Busy self.old turn.old }
-        requires asks { self.old.waits.asks ≡ Some asking }
-        ensures moves { let view = view_of (R.meaning site.now) (R.serving site.now) in IfOk result (λ on. GoesOn view stage.Busy on
-            (λ again. Look (λ b s. answer_asked (service view) now.0 again b s.client asking)) self.old turn.old self.new turn.new) }
-        ensures costs { IfOk result (λ on. Settles R.left R.bound on self.old turn.old self.new turn.new) }
-    {
-        match asking {
-            Asking::Body(max) => self.answer_body(turn, alloc, site, now, max),
-            Asking::AllTaken => {
-                let seen = self.client.taken_seen();
-                self.tell(turn, alloc, site, now, seen)
-            }
-        }
-    }
-
     /// The run that waits is told what is there; a client that took the last reply is hung up.
     fn waiting(
         &mut self,
@@ -169,7 +145,13 @@ impl<R: ServiceContract> Connection<R> {
         ensures costs { IfOk result (λ on. Settles R.left R.bound on self.old turn.old self.new turn.new) }
     {
         match self.waits.asks {
-            Some(asking) => self.answer_asked(turn, alloc, site, now, asking),
+            Some(asking) => match asking {
+                Asking::Body(max) => self.answer_body(turn, alloc, site, now, max),
+                Asking::AllTaken => {
+                    let seen = self.client.taken_seen();
+                    self.tell(turn, alloc, site, now, seen)
+                }
+            },
             None => self.waiting(turn, alloc, site, now),
         }
     }
@@ -190,8 +172,7 @@ impl<R: ServiceContract> Connection<R> {
             return Ok(false);
         }
         if !self.client.is_open || self.client.reply.closes_after() {
-            self.finish(turn, site)?;
-            return Ok(false);
+            return going(self.finish(turn, site), false);
         }
         self.next(turn, alloc, site, now)
     }

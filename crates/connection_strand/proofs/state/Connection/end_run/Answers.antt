@@ -6,13 +6,15 @@ use Rattle.run_contract.specs.declared.turns.RunAct.TheVariants as made
 use Rattle.run_contract.specs.Deeds.{Say}
 use Rattle.connection_strand.specs.Views.{view_of}
 use Rattle.connection_strand.specs.Standing.{taking}
+use Rattle.connection_strand.proofs.Ends.{ok-map}
 use Rattle.connection_strand.proofs.Speaking.{flushes}
 use Rattle.connection_strand.proofs.state.Connection.end_run.Goals as goal
 
 pub returns-clause-moves : goal.returns-clause-moves
-returns-clause-moves g c = λ st ds a rest did m h.
+returns-clause-moves g c =
     let site = c.args.site.now in
     let v = view_of (g.R.RunContract.meaning site) (g.R.ServiceContract.serving site) in
     let met = g.met.R.RunContract in
+    ok-map c.end_timer-body.result _ _ (λ done ends. λ st ds a rest did m h.
     flushes v (met.meets site) (met.apart site) st ds a rest did _ _ _ m refl refl refl refl refl
-    (c.in_ok-end_timer.ensures.moves (taking st (Say said.Over ∷ ds) a (made.Say said.Over ∷ rest)) did (change (λ k. record k { stage = stage.Flush }) m) h)
+    (ends (taking st (Say said.Over ∷ ds) a (made.Say said.Over ∷ rest)) did (change (λ k. record k { stage = stage.Flush }) m) h)) c.end_timer-body.ensures.moves

@@ -9,7 +9,7 @@ use Rattle.connection_strand.specs.Views.{view_of, service}
 use Rattle.connection_strand.specs.Costs.{unit}
 use Rattle.connection_strand.specs.Standing.{plain}
 use Rattle.connection_strand.proofs.Losing.{has-run, tells, may-tell, loses-busy, busy-is, may-be-gone, goes-at, tells_gone, tells-gone}
-use Rattle.connection_strand.proofs.Ends.{done-came, went-came}
+use Rattle.connection_strand.proofs.Ends.{ok-map, of-ok, done-came, went-came}
 use Rattle.connection_strand.proofs.Costing.{loses-costs, ends-within}
 use Rattle.connection_strand.proofs.Falling.{lost-falls, lost-alone, paid-spends}
 use Rattle.connection_strand.proofs.state.Connection.lose_busy.Goals as goal
@@ -19,53 +19,56 @@ tell-requires g c =
     let site = c.args.site.now in
     let v = view_of (g.R.RunContract.meaning site) (g.R.ServiceContract.serving site) in
     may-tell v c.args.now.0 seen.ClientGone c.let_client_go.new.self c.let_client_go.new.turn
-    (may-be-gone v c.args.now.0 c.let_client_go.new.self c.if-self.true (ap (λ w. w.asks) c.in_ok-let_client_go.ensures.waits ∙ c.requires.unasked))
-    (goes-at v (λ m. HangUp place.Client (end_timer (service v) 0 timer.Body (end_timer (service v) 0 timer.Send m))) stage.Busy _ _ _ _ c.in_ok-let_client_go.ensures.moves c.requires.within)
+    (may-be-gone v c.args.now.0 c.let_client_go.new.self c.if-self.true (ap (λ w. w.asks) c.in-Ok.ensures.waits ∙ c.requires.unasked))
+    (goes-at v (λ m. HangUp place.Client (end_timer (service v) 0 timer.Body (end_timer (service v) 0 timer.Send m))) stage.Busy _ _ _ _ c.in-Ok.ensures.moves c.requires.within)
 
-pub returns-in_ok-tell-clause-moves : goal.returns-in_ok-tell-clause-moves
-returns-in_ok-tell-clause-moves g c = λ st did h.
+pub returns-then-self-clause-moves : goal.returns-then-self-clause-moves
+returns-then-self-clause-moves g c =
     let site = c.args.site.now in
     let v = view_of (g.R.RunContract.meaning site) (g.R.ServiceContract.serving site) in
+    ok-map c.ended.result _ _ (λ done e. λ st did h.
     let gone = tells_gone v c.args.now.0 in
-    let left = c.in_ok-let_client_go.ensures.moves (plain stage.Busy) did gone
+    let left = c.in-Ok.ensures.moves (plain stage.Busy) did gone
     (loses-busy v c.args.now.0 st did c.args.self.now c.args.turn.now (busy-is v c.args.self.now c.args.turn.now c.requires.within) h) in
-    went-came v c.in_ok-tell.field-0 did c.tell.new.self c.tell.new.turn
-    (c.in_ok-tell.ensures.moves did Done (tells v c.args.now.0 seen.ClientGone did c.let_client_go.new.self c.let_client_go.new.turn Done
-    (may-be-gone v c.args.now.0 c.let_client_go.new.self c.if-self.true (ap (λ w. w.asks) c.in_ok-let_client_go.ensures.waits ∙ c.requires.unasked))
-    (tells-gone v c.args.now.0 did c.let_client_go.new.self c.let_client_go.new.turn true c.if-self.true left)))
+    went-came v e.0 did c.tell.new.self c.tell.new.turn
+    (of-ok c.tell.result e.0 _ e.1 c.tell.ensures.moves did Done (tells v c.args.now.0 seen.ClientGone did c.let_client_go.new.self c.let_client_go.new.turn Done
+    (may-be-gone v c.args.now.0 c.let_client_go.new.self c.if-self.true (ap (λ w. w.asks) c.in-Ok.ensures.waits ∙ c.requires.unasked))
+    (tells-gone v c.args.now.0 did c.let_client_go.new.self c.let_client_go.new.turn true c.if-self.true left)))) c.ended.ensures
 
 pub returns-else-self-clause-moves : goal.returns-else-self-clause-moves
 returns-else-self-clause-moves g c = λ st did h.
     let site = c.args.site.now in
     let v = view_of (g.R.RunContract.meaning site) (g.R.ServiceContract.serving site) in
     let gone = tells_gone v c.args.now.0 in
-    let left = c.in_ok-let_client_go.ensures.moves (plain stage.Busy) did gone
+    let left = c.in-Ok.ensures.moves (plain stage.Busy) did gone
     (loses-busy v c.args.now.0 st did c.args.self.now c.args.turn.now (busy-is v c.args.self.now c.args.turn.now c.requires.within) h) in
     done-came v stage.Busy did c.let_client_go.new.self c.let_client_go.new.turn
     (tells-gone v c.args.now.0 did c.let_client_go.new.self c.let_client_go.new.turn false c.if-self.false left)
 
-pub returns-in_ok-tell-clause-costs : goal.returns-in_ok-tell-clause-costs
-returns-in_ok-tell-clause-costs g c =
+pub returns-then-self-clause-costs : goal.returns-then-self-clause-costs
+returns-then-self-clause-costs g c =
     let site = c.args.site.now in
     let v = view_of (g.R.RunContract.meaning site) (g.R.ServiceContract.serving site) in
+    ok-map c.ended.result _ _ (λ done e.
     loses-costs g.R.RunContract.left g.R.ServiceContract.bound c.args.self.now c.let_client_go.new.self c.tell.new.self c.args.turn.now c.let_client_go.new.turn c.tell.new.turn
-    c.in_ok-let_client_go.ensures.costs (c.in_ok-tell.ensures.costs refl (has-run v c.let_client_go.new.self c.let_client_go.new.turn
-    (goes-at v (λ m. HangUp place.Client (end_timer (service v) 0 timer.Body (end_timer (service v) 0 timer.Send m))) stage.Busy _ _ _ _ c.in_ok-let_client_go.ensures.moves c.requires.within)))
+    c.in-Ok.ensures.costs (of-ok c.tell.result e.0 _ e.1 (c.tell.ensures.costs refl (has-run v c.let_client_go.new.self c.let_client_go.new.turn
+    (goes-at v (λ m. HangUp place.Client (end_timer (service v) 0 timer.Body (end_timer (service v) 0 timer.Send m))) stage.Busy _ _ _ _ c.in-Ok.ensures.moves c.requires.within))))) c.ended.ensures
 
 pub returns-else-self-clause-costs : goal.returns-else-self-clause-costs
 returns-else-self-clause-costs g c =
-    ends-within g.R.RunContract.left g.R.ServiceContract.bound 0 c.args.self.now c.let_client_go.new.self c.args.turn.now c.let_client_go.new.turn c.in_ok-let_client_go.ensures.costs
+    ends-within g.R.RunContract.left g.R.ServiceContract.bound 0 c.args.self.now c.let_client_go.new.self c.args.turn.now c.let_client_go.new.turn c.in-Ok.ensures.costs
 
-pub returns-in_ok-tell-clause-falls : goal.returns-in_ok-tell-clause-falls
-returns-in_ok-tell-clause-falls g c there =
+pub returns-then-self-clause-falls : goal.returns-then-self-clause-falls
+returns-then-self-clause-falls g c there =
     let site = c.args.site.now in
     let v = view_of (g.R.RunContract.meaning site) (g.R.ServiceContract.serving site) in
+    ok-map c.ended.result _ _ (λ done e.
     lost-falls g.R.RunContract.left g.R.ServiceContract.bound c.args.self.now c.let_client_go.new.self c.tell.new.self c.args.turn.now c.let_client_go.new.turn c.tell.new.turn
-    (c.in_ok-let_client_go.ensures.pays there)
-    (paid-spends g.R.RunContract.left g.R.ServiceContract.bound unit c.let_client_go.new.self c.tell.new.self c.let_client_go.new.turn c.tell.new.turn (c.in_ok-tell.ensures.costs refl
+    (c.in-Ok.ensures.pays there)
+    (paid-spends g.R.RunContract.left g.R.ServiceContract.bound unit c.let_client_go.new.self c.tell.new.self c.let_client_go.new.turn c.tell.new.turn (of-ok c.tell.result e.0 _ e.1 (c.tell.ensures.costs refl
     (has-run v c.let_client_go.new.self c.let_client_go.new.turn
-    (goes-at v (λ m. HangUp place.Client (end_timer (service v) 0 timer.Body (end_timer (service v) 0 timer.Send m))) stage.Busy _ _ _ _ c.in_ok-let_client_go.ensures.moves c.requires.within))))
+    (goes-at v (λ m. HangUp place.Client (end_timer (service v) 0 timer.Body (end_timer (service v) 0 timer.Send m))) stage.Busy _ _ _ _ c.in-Ok.ensures.moves c.requires.within)))))) c.ended.ensures
 
 pub returns-else-self-clause-falls : goal.returns-else-self-clause-falls
 returns-else-self-clause-falls g c there =
-    lost-alone g.R.RunContract.left g.R.ServiceContract.bound c.args.self.now c.let_client_go.new.self c.args.turn.now c.let_client_go.new.turn (c.in_ok-let_client_go.ensures.pays there)
+    lost-alone g.R.RunContract.left g.R.ServiceContract.bound c.args.self.now c.let_client_go.new.self c.args.turn.now c.let_client_go.new.turn (c.in-Ok.ensures.pays there)

@@ -1,34 +1,33 @@
-use Rattle.std.proofs.Common.{sym, ◌∙◌, inl, inr}
-use Rattle.strand_contract.proofs.Results.{if-ok}
-use Rattle.client_line.specs.declared.line.Held.TheVariants as held
+use Rattle.std.proofs.Common.{refl, arith}
+use Rattle.client_line.specs.Lines.{held_in}
+use Rattle.strand_plans.specs.Moves.{Done}
+use Rattle.connection_strand.specs.Kept.{kept, stage_waiting, timer_of}
 use Rattle.connection_strand.specs.Standing.{plain}
-use Rattle.connection_strand.proofs.Hearing.{waits-so}
 use Rattle.connection_strand.specs.Views.{view_of}
+use Rattle.connection_strand.proofs.Costing.{spends-client, spends-after}
+use Rattle.connection_strand.proofs.Ends.{ok-map, done-came}
+use Rattle.connection_strand.proofs.Hearing.{waits-so}
 use Rattle.connection_strand.proofs.state.Connection.wait.Goals as goal
 
-pub returns-in-Body-clause-moves : goal.returns-in-Body-clause-moves
-returns-in-Body-clause-moves g c =
+pub returns-clause-moves : goal.returns-clause-moves
+returns-clause-moves g c =
     let site = c.args.site.now in
     let v = view_of (g.R.RunContract.meaning site) (g.R.ServiceContract.serving site) in
-    let met = g.met.R.RunContract in
-    if-ok c.wait_at.result _ _ c.wait_at.ensures.moves (λ over waits st free did m h. waits tt st free did m
-    (waits-so v c.args.now.0 (plain st) did c.args.self.now c.args.turn.now held.Body (sym c.in-Body.is ∙ c.held.ensures) h))
+    let k = kept c.args.self.now.client in
+    let held = held_in k.came.at k.came.held in
+    let to = stage_waiting held in
+    ok-map c.begin_timer.result _ _ (λ done goes. λ st free did m h.
+    done-came v to did c.begin_timer.new.self c.begin_timer.new.turn
+    (goes (plain to) did Done
+    (waits-so v c.args.now.0 st did c.args.self.now _ c.args.turn.now held (timer_of c.wait-timer.result) refl free (record { run = refl; waits = refl; sockets = refl; count = refl; keeping = refl; taking = refl })
+    c.wait-timer.ensures.stage c.wait-timer.ensures.timer h))) c.begin_timer.ensures.moves
 
-pub returns-in-Nothing-clause-moves : goal.returns-in-Nothing-clause-moves
-returns-in-Nothing-clause-moves g c =
-    let site = c.args.site.now in
-    let v = view_of (g.R.RunContract.meaning site) (g.R.ServiceContract.serving site) in
-    let met = g.met.R.RunContract in
-    if-ok c.wait_at-in-Nothing.result _ _ c.wait_at-in-Nothing.ensures.moves (λ over waits st free did m h. waits tt st free did m
-    (waits-so v c.args.now.0 (plain st) did c.args.self.now c.args.turn.now held.Nothing (sym c.in-Nothing.is ∙ c.held.ensures) h))
-
-pub returns-in-Request-clause-moves : goal.returns-in-Request-clause-moves
-returns-in-Request-clause-moves g c =
-    let site = c.args.site.now in
-    let v = view_of (g.R.RunContract.meaning site) (g.R.ServiceContract.serving site) in
-    let met = g.met.R.RunContract in
-    if-ok c.wait_at-in-Request.result _ _ c.wait_at-in-Request.ensures.moves (λ over waits st free did m h. waits tt st free did m
-    (elim c.in-Request.is [
-      | inl e ↦ waits-so v c.args.now.0 (plain st) did c.args.self.now c.args.turn.now held.Request (sym e ∙ c.held.ensures) h
-      | inr e ↦ waits-so v c.args.now.0 (plain st) did c.args.self.now c.args.turn.now held.Begun (sym e ∙ c.held.ensures) h
-    ]))
+pub returns-clause-costs : goal.returns-clause-costs
+returns-clause-costs g c =
+    let old = c.args.self.now in
+    let k = kept old.client in
+    let to = stage_waiting (held_in k.came.at k.came.held) in
+    ok-map c.begin_timer.result _ _ (λ done spends.
+    spends-after g.R.RunContract.left g.R.ServiceContract.bound 0 5 old (record old { client = c.wait-timer.new.self }) c.begin_timer.new.self c.args.turn.now c.args.turn.now c.begin_timer.new.turn
+    (spends-client g.R.RunContract.left g.R.ServiceContract.bound 0 old (record old { client = c.wait-timer.new.self }) c.args.turn.now c.args.turn.now (record k { stage = to })
+    c.wait-timer.ensures.stage refl refl refl (omega arith)) spends) c.begin_timer.ensures.costs
