@@ -284,6 +284,3 @@ module _ {R J I : Type 0} (v : View R J I) where
 
   pub has-run : (c : Connection R) (u : Turn J) → IsAt v stage.Busy c u → c.run ≡ None → ⊥
   has-run c u h e = let f : None ≡ Some h.2.run.0 = sym e ∙ h.2.run.1 in cc
-
-  pub busy-is : (c : Connection R) (u : Turn J) → IsAt v stage.Busy c u → (kept c.client).stage ≡ stage.Busy
-  busy-is c u h = ap (λ (k : Kept). k.stage) h.2.serves.client ∙ h.2.at

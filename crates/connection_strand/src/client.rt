@@ -275,8 +275,10 @@ impl Client {
     {
         match self.line.body(self.limit) {
             BodyRead::Whole(_) => {
-                let content = Bytes::copy_from_slice(alloc, self.line.body_bytes())?;
-                Ok(Some(RunSeen::Body(content, self.waited)))
+                match Bytes::copy_from_slice(alloc, self.line.body_bytes()) {
+                    Ok(content) => Ok(Some(RunSeen::Body(content, self.waited))),
+                    Err(error) => Err(error),
+                }
             }
             BodyRead::Refused(code) => Ok(Some(RunSeen::BodyRefused(code))),
             BodyRead::More if self.is_open && !self.has_ended => Ok(None),

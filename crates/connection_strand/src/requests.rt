@@ -83,33 +83,6 @@ impl<R: ServiceContract> Connection<R> {
         both(client, both(body, send))
     }
 
-    /// The client of a run that goes on is lost: it is hung up, and the run is told so.
-    fn lose_busy(
-        &mut self,
-        turn: &mut Turn<R::Job>,
-        alloc: Global,
-        site: &R::Site,
-        now: Ms,
-    ) -> Result<(), AllocError>
-        requires within { let view = view_of (R.meaning site.now) (R.serving site.now) in IsAt view stage.Busy self.old turn.old }
-        requires unasked { self.old.waits.asks ≡ None }
-        ensures moves { let view = view_of (R.meaning site.now) (R.serving site.now) in IfOk result (λ done. Ends view
-            (lose (service view) now.0) self.old turn.old self.new turn.new) }
-        ensures costs { IfOk result (λ done. Costs R.left R.bound 0 self.old turn.old self.new turn.new) }
-        ensures falls { self.old.client.is_open ≡ true → IfOk result (λ done. Falls R.left R.bound self.old turn.old self.new turn.new) }
-    {
-        match self.let_client_go(turn, site) {
-            Ok(()) => {
-                if self.waits.client {
-                    ended(self.tell(turn, alloc, site, now, RunSeen::ClientGone))
-                } else {
-                    Ok(())
-                }
-            }
-            Err(error) => Err(error),
-        }
-    }
-
     /// The client is lost: it is hung up, and a run that goes on is told so.
     pub(crate) fn lose(
         &mut self,
@@ -126,7 +99,16 @@ impl<R: ServiceContract> Connection<R> {
         ensures falls { self.old.client.is_open ≡ true → IfOk result (λ done. Falls R.left R.bound self.old turn.old self.new turn.new) }
     {
         match self.client.stage {
-            Stage::Busy => self.lose_busy(turn, alloc, site, now),
+            Stage::Busy => match self.let_client_go(turn, site) {
+                Ok(()) => {
+                    if self.waits.client {
+                        ended(self.tell(turn, alloc, site, now, RunSeen::ClientGone))
+                    } else {
+                        Ok(())
+                    }
+                }
+                Err(error) => Err(error),
+            },
             Stage::Idle | Stage::Head | Stage::Flush | Stage::Drop | Stage::Over => {
                 self.finish(turn, site)
             }
@@ -222,17 +204,6 @@ impl<R: ServiceContract> Connection<R> {
         }
     }
 
-    /// What is waited for: more of a body that is dropped, the first byte of a head, or the rest of one.
-    fn wait(&mut self, turn: &mut Turn<R::Job>, site: &R::Site, now: Ms) -> Result<(), AllocError>
-        ensures moves { let view = view_of (R.meaning site.now) (R.serving site.now) in IfOk result (λ done. Hears view false
-            (λ rest. Look (λ b s. wait_for (service view) now.0 (held_in s.client.came.at s.client.came.held)))
-            self.old turn.old self.new turn.new) }
-        ensures costs { IfOk result (λ done. Spends R.left R.bound 5 self.old turn.old self.new turn.new) }
-    {
-        let timer = self.client.wait();
-        self.begin_timer(turn, site, now, timer)
-    }
-
     /// More is waited for: a timer begins, or goes on; a client that ended is hung up.
     fn hear_no_more(
         &mut self,
@@ -249,7 +220,8 @@ impl<R: ServiceContract> Connection<R> {
         if self.client.has_ended {
             going(self.finish(turn, site), false)
         } else if anew {
-            going(self.wait(turn, site, now), false)
+            let timer = self.client.wait();
+            going(self.begin_timer(turn, site, now, timer), false)
         } else {
             Ok(false)
         }

@@ -46,7 +46,10 @@ impl<R: ServiceContract> Connection<R> {
                 }
                 self.client.waited = true;
                 if self.client.expects {
-                    self.send(turn, site, &continue_reply())
+                    let reply = continue_reply();
+                    let sent = self.send(turn, site, &reply);
+                    drop(reply);
+                    sent
                 } else {
                     Ok(())
                 }
@@ -88,18 +91,6 @@ impl<R: ServiceContract> Connection<R> {
         }
     }
 
-    /// Nothing of the run is left to be done.
-    fn end_run(&mut self, turn: &mut Turn<R::Job>, site: &R::Site) -> Result<(), AllocError>
-        ensures moves { let view = view_of (R.meaning site.now) (R.serving site.now) in IfOk result (λ done.
-            HearsWord view 0 said.Over self.old turn.old self.new turn.new) }
-        ensures costs { IfOk result (λ done. Spends R.left R.bound unit self.old turn.old self.new turn.new) }
-    {
-        let body = self.end_timer(turn, site, Timer::Body);
-        self.client.stage = Stage::Flush;
-        self.run = None;
-        body
-    }
-
     /// The run says this.
     pub(crate) fn hear_word(
         &mut self,
@@ -130,7 +121,12 @@ impl<R: ServiceContract> Connection<R> {
                 self.client.reply = Reply::Whole(*closes);
                 Ok(())
             }
-            Said::Over => self.end_run(turn, site),
+            Said::Over => {
+                let body = self.end_timer(turn, site, Timer::Body);
+                self.client.stage = Stage::Flush;
+                self.run = None;
+                body
+            }
         }
     }
 }

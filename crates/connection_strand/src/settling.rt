@@ -38,7 +38,10 @@ impl<R: ServiceContract> Connection<R> {
     {
         match self.end_timer(turn, site, Timer::Body) {
             Ok(()) => self.tell(turn, alloc, site, now, seen),
-            Err(error) => Err(error),
+            Err(error) => {
+                drop(seen);
+                Err(error)
+            }
         }
     }
 
@@ -131,31 +134,6 @@ impl<R: ServiceContract> Connection<R> {
         Ok(false)
     }
 
-    /// A run that goes on is answered what it asks, or told what it waits for.
-    fn busy(
-        &mut self,
-        turn: &mut Turn<R::Job>,
-        alloc: Global,
-        site: &R::Site,
-        now: Ms,
-    ) -> Result<bool, AllocError>
-        requires { let view = view_of (R.meaning site.now) (R.serving site.now) in IsAt view stage.Busy self.old turn.old }
-        ensures moves { let view = view_of (R.meaning site.now) (R.serving site.now) in IfOk result (λ on. GoesOn view stage.Busy on
-            (λ again. Look (λ b s. busy (service view) now.0 again b s)) self.old turn.old self.new turn.new) }
-        ensures costs { IfOk result (λ on. Settles R.left R.bound on self.old turn.old self.new turn.new) }
-    {
-        match self.waits.asks {
-            Some(asking) => match asking {
-                Asking::Body(max) => self.answer_body(turn, alloc, site, now, max),
-                Asking::AllTaken => {
-                    let seen = self.client.taken_seen();
-                    self.tell(turn, alloc, site, now, seen)
-                }
-            },
-            None => self.waiting(turn, alloc, site, now),
-        }
-    }
-
     /// The run is over: once all is taken the connection closes, or goes on with the next request.
     fn flush(
         &mut self,
@@ -177,7 +155,7 @@ impl<R: ServiceContract> Connection<R> {
         self.next(turn, alloc, site, now)
     }
 
-    /// Settles one thing, and reports whether there may be more.
+    /// Settles one thing, and reports whether there may be more: a run that goes on is answered what it asks, or told what it waits for.
     fn settle_once(
         &mut self,
         turn: &mut Turn<R::Job>,
@@ -191,7 +169,16 @@ impl<R: ServiceContract> Connection<R> {
         ensures costs { IfOk result (λ on. Settles R.left R.bound on self.old turn.old self.new turn.new) }
     {
         match self.client.stage {
-            Stage::Busy => self.busy(turn, alloc, site, now),
+            Stage::Busy => match self.waits.asks {
+                Some(asking) => match asking {
+                    Asking::Body(max) => self.answer_body(turn, alloc, site, now, max),
+                    Asking::AllTaken => {
+                        let seen = self.client.taken_seen();
+                        self.tell(turn, alloc, site, now, seen)
+                    }
+                },
+                None => self.waiting(turn, alloc, site, now),
+            },
             Stage::Flush => self.flush(turn, alloc, site, now),
             Stage::Idle | Stage::Head | Stage::Drop | Stage::Over => Ok(false),
         }

@@ -39,7 +39,10 @@ pub(crate) fn put<J: Drop>(acts: &mut Acts<J>, act: Act<J>) -> Result<(), AllocE
 {
     match acts.push_back(act) {
         Ok(()) => Ok(()),
-        Err(_) => Err(AllocError),
+        Err(refused) => {
+            drop(refused.value);
+            Err(AllocError)
+        }
     }
 }
 
