@@ -11,6 +11,7 @@ use Rattle.connection_strand.specs.declared.state.Connection.{Connection}
 use Rattle.connection_strand.specs.declared.state.Turn.{Turn}
 use Rattle.connection_strand.specs.Kept.{Kept, kept, with_armed, is_armed}
 use Rattle.connection_strand.specs.Costs.{unit, weight_if, client_left, units, whole, left_at, left_of, Spends, Pays, Costs, Settles}
+use Rattle.connection_strand.proofs.Moving.{unarmed-same}
 
 pub one-longer : {J : Type 0} (acts acts' : List (Act J)) (a : Act J) → acts' ≡ acts ++ a ∷ [] → length acts' ≡ length acts + 1
 one-longer acts acts' a e = ap length e ∙ length-append acts (a ∷ [])
@@ -72,7 +73,7 @@ module _ {R J : Type 0} (left : R → ℕ) (bound : ℕ) where
       same timer.Body = refl
       same timer.Send = refl
 
-  pub ends-costs : (t : Timer) (c c' : Connection R) (u u' : Turn J) (a : Act J) → is_armed t (kept c.client) ≡ true → kept c'.client ≡ with_armed t false (kept c.client) → c'.run ≡ c.run
+  ends-costs : (t : Timer) (c c' : Connection R) (u u' : Turn J) (a : Act J) → is_armed t (kept c.client) ≡ true → kept c'.client ≡ with_armed t false (kept c.client) → c'.run ≡ c.run
       → c'.sockets.items ≡ c.sockets.items → u'.acts.items ≡ u.acts.items ++ a ∷ [] → Spends left bound 0 c u c' u'
   ends-costs t c c' u u' a armed client run socks acts =
       spends-client 0 c c' u u' (with_armed t false (kept c.client)) client run socks (same t)
@@ -83,6 +84,13 @@ module _ {R J : Type 0} (left : R → ℕ) (bound : ℕ) where
       same timer.Keepalive = refl
       same timer.Body = refl
       same timer.Send = refl
+
+  -- or there is nothing to cancel
+  pub ends-costs-if : (o : Bool) (t : Timer) (c c' : Connection R) (u u' : Turn J) (a : Act J) → is_armed t (kept c.client) ≡ o → kept c'.client ≡ with_armed t false (kept c.client) → c'.run ≡ c.run
+      → c'.sockets.items ≡ c.sockets.items → u'.acts.items ≡ u.acts.items ++ (if o then a ∷ [] else []) → Spends left bound 0 c u c' u'
+  ends-costs-if true t c c' u u' a armed client run socks acts = ends-costs t c c' u u' a armed client run socks acts
+  ends-costs-if false t c c' u u' a none client run socks acts =
+      spends-client 0 c c' u u' (kept c.client) (client ∙ unarmed-same t (kept c.client) none) run socks refl (let l = ap length acts ∙ length-append u.acts.items [] in omega arith)
 
   pub spends-nothing : (c : Connection R) (u : Turn J) → Spends left bound 0 c u c u
   spends-nothing c u = omega arith

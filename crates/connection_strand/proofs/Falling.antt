@@ -5,6 +5,8 @@ use Rattle.std.proofs.Math.Nat.{min_comm}
 use Rattle.std.proofs.lemmas.List.{length-drop, length-take}
 use Rattle.send_queue.specs.Queues as queues
 use Rattle.strand_contract.specs.declared.turns.Act.{Act}
+use Rattle.strand_contract.specs.declared.turns.Act.TheVariants as act
+use Rattle.strand_contract.specs.declared.turns.Place.TheVariants as place
 use Rattle.strand_contract.specs.declared.turns.Answer.{Answer}
 use Rattle.strand_contract.specs.declared.turns.Answer.TheVariants as given
 use Rattle.strand_contract.specs.Alone.{due, sooner}
@@ -17,12 +19,12 @@ use Rattle.strand_plans.specs.Ledgers.{has_number, numbers}
 use Rattle.connection_strand.specs.declared.state.Connection.{Connection}
 use Rattle.connection_strand.specs.declared.state.Turn.{Turn}
 use Rattle.connection_strand.specs.Kept.{Kept, kept}
-use Rattle.connection_strand.specs.Costs.{unit, weight_if, client_left, units, whole, Spends, Pays, Costs, Falls, FallsBy}
+use Rattle.connection_strand.specs.Costs.{unit, weight_if, client_left, units, whole, Spends, Pays, Costs, Falls}
 use Rattle.connection_strand.specs.Acts.{sockets_with}
 use Rattle.connection_strand.specs.Shown.{sock_seen}
 use Rattle.connection_strand.specs.Standing.{places}
 use Rattle.connection_strand.proofs.Ends.{ending-length}
-use Rattle.connection_strand.proofs.Costing.{may-end}
+use Rattle.connection_strand.proofs.Costing.{may-end, one-longer, spends-client, hangs-costs}
 use Rattle.connection_strand.proofs.Paying.{filter-fewer}
 
 -- a deadline that is due is armed
@@ -147,6 +149,15 @@ module _ {R J : Type 0} (left : R → ℕ) (bound : ℕ) where
       let w = ap (λ (x : Bool). weight_if x 4) opens in
       omega arith
 
+  -- or there is none
+  pub hung-spends : (o : Bool) (c d : Connection R) (u v : Turn J) → (kept c.client).opened ≡ o → d.run ≡ c.run → d.sockets ≡ c.sockets
+      → kept d.client ≡ (if o then record (kept c.client) { opened = false; sending = queues.dropped (kept c.client).sending } else kept c.client)
+      → v.acts.items ≡ u.acts.items ++ (if o then act.HangUp place.Client ∷ [] else []) → Spends left bound 0 c u d v
+  hung-spends true c d u v opens run socks client acts =
+      hangs-costs left bound c d u v (hung-pays c d u v opens run socks client (one-longer u.acts.items v.acts.items (act.HangUp place.Client) acts))
+  hung-spends false c d u v shut run socks client acts =
+      spends-client left bound 0 c d u v (kept c.client) client run (ap (λ v. v.items) socks) refl (let l = ap length acts ∙ length-append u.acts.items [] in omega arith)
+
   pub closing-falls : (o : Bool) (x n : ℕ) (acts last : List (Act J)) (socks : List ℕ) → last ≡ acts ++ ending (places o socks) → n ≡ x + weight_if o 4 + 2 * length socks + 2
       → 0 + length last < n + length acts
   closing-falls o x n acts last socks e f = by o (ap length e ∙ length-append acts (ending (places o socks)) ∙ ap (λ k. length acts + k) (ending-length J o socks)) f
@@ -167,13 +178,7 @@ module _ {R J : Type 0} (left : R → ℕ) (bound : ℕ) where
   pub paid-spends : (n : ℕ) (c c' : Connection R) (u u' : Turn J) → Pays left bound n c u c' u' → Spends left bound 0 c u c' u'
   paid-spends n c c' u u' h = omega arith
 
-  -- the run paid for its answer
-  pub given-falls : (c c' : Connection R) (u u' : Turn J) → Pays left bound unit c u c' u' → FallsBy left bound 3 c u c' u'
-  given-falls c c' u u' h = let e = may-end left bound c' in let n = units-hold in omega arith
-
-  pub given-settled : (c d c' : Connection R) (u v u' : Turn J) → Pays left bound unit c u d v → Costs left bound 5 d v c' u' → FallsBy left bound 3 c u c' u'
-  given-settled c d c' u v u' h k = let n = units-hold in omega arith
-
-  -- and for the socket that it opened
-  pub answered-falls : (c d c' : Connection R) (u u' : Turn J) → whole left bound d ≤ whole left bound c + 2 → FallsBy left bound 3 d u c' u' → Falls left bound c u c' u'
-  answered-falls c d c' u u' few h = omega arith
+  -- the run paid for its answer, and for the socket that it opened
+  pub answered-falls : (c d e c' : Connection R) (u v u' : Turn J) → whole left bound d ≤ whole left bound c + 2 → Pays left bound unit d u e v → Costs left bound 5 e v c' u'
+      → Falls left bound c u c' u'
+  answered-falls c d e c' u v u' few h k = let n = units-hold in omega arith

@@ -20,13 +20,14 @@ use Rattle.run_contract.specs.Conditions.{IsBlank, IsRun, Leaves}
 use Rattle.connection_plan.specs.Clients.{Stage, Client, with_request, with_refusal, closes_after}
 use Rattle.connection_plan.specs.Clients as stage
 use Rattle.connection_plan.specs.Services.{Both}
+use Rattle.connection_plan.specs.Timers.{Timer}
 use Rattle.connection_plan.specs.Timers as timer
 use Rattle.connection_plan.specs.Conditions.{AgreesWithin}
-use Rattle.connection_plan.specs.Turns.{is_there, is_all_taken, change, send, begin, end_timer, finish, close_if_taken, refuse, wait_for, heard_by, next}
+use Rattle.connection_plan.specs.Turns.{is_there, is_all_taken, change, send, begin, begin_timer, end_timer, finish, close_if_taken, refuse, wait_for, heard_by, next}
 use Rattle.connection_strand.specs.Views.{View, service}
 use Rattle.connection_strand.specs.declared.state.Connection.{Connection}
 use Rattle.connection_strand.specs.declared.state.Turn.{Turn}
-use Rattle.connection_strand.specs.Kept.{Kept, kept, kept_of, waits_of, all_taken}
+use Rattle.connection_strand.specs.Kept.{Kept, kept, kept_of, waits_of, all_taken, stage_waiting, timer_waiting}
 use Rattle.connection_strand.specs.Standing.{Moment, plain, HasRun, Serves, Toward, IsOn, IsFree, before, places}
 use Rattle.connection_strand.specs.Turns.{Took, IsRefusedAt, IsAnswered}
 use Rattle.connection_strand.proofs.Moving.{IsSameRun}
@@ -140,10 +141,26 @@ module _ {R J I : Type 0} (v : View R J I) where
     leads = h.leads ∙ ap (λ (n : Move J (Both I)). before u.acts.items (perform n h.ledger h.inner)) is;
   }
 
-  pub waits-so : (now : ℕ) (e : Moment J) (did : Performed J (Both I)) (c : Connection R) (u : Turn J) (x : Held) → x ≡ held_in (kept c.client).came.at (kept c.client).came.held
-      → To e did c u (Look (λ b s. wait_for (service v) now (held_in s.client.came.at s.client.came.held))) → To e did c u (wait_for (service v) now x)
-  waits-so now e did c u x is h =
-      looks _ _ e did c u h (ap (wait_for (service v) now) (sym (is ∙ ap (λ (k : Kept). held_in k.came.at k.came.held) h.within.serves.client)))
+  waits-by : (now : ℕ) (x : Held) → wait_for (service v) now x ≡ change (λ c. record c { stage = stage_waiting x }) (begin_timer (service v) now (timer_waiting x) Done)
+  waits-by now held.Request = refl
+  waits-by now held.Body = refl
+  waits-by now held.Nothing = refl
+  waits-by now held.Begun = refl
+
+  waits-free : (x : Held) → IsFree (stage_waiting x)
+  waits-free held.Request = tt
+  waits-free held.Body = tt
+  waits-free held.Nothing = tt
+  waits-free held.Begun = tt
+
+  pub waits-so : (now : ℕ) (st : Stage) (did : Performed J (Both I)) (c c' : Connection R) (u : Turn J) (x : Held) (t : Timer) → x ≡ held_in (kept c.client).came.at (kept c.client).came.held
+      → IsFree st → IsSameRun c c' → kept c'.client ≡ record (kept c.client) { stage = stage_waiting x } → t ≡ timer_waiting x
+      → To (plain st) did c u (Look (λ b s. wait_for (service v) now (held_in s.client.came.at s.client.came.held))) → To (plain (stage_waiting x)) did c' u (begin_timer (service v) now t Done)
+  waits-so now st did c c' u x t is free same client timed h =
+      let to = stage_waiting x in
+      subst (λ (y : Timer). To (plain to) did c' u (begin_timer (service v) now y Done)) (sym timed)
+      (restages (λ k. record k { stage = to }) (λ k. record k { stage = to }) st to did c c' u (begin_timer (service v) now (timer_waiting x) Done) free (waits-free x) (λ b x. refl) (λ x. refl) same client
+      (looks _ _ (plain st) did c u h (ap (wait_for (service v) now) (sym (is ∙ ap (λ (k : Kept). held_in k.came.at k.came.held) h.within.serves.client)) ∙ waits-by now x)))
 
   -- ---- a head that is refused
 

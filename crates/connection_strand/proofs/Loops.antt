@@ -19,7 +19,7 @@ module _ {R J I : Type 0} (v : View R J I) (now : ℕ) where
   pub begins : (c : Connection R) (u : Turn J) → IsWithin v c u → IsSettling true c u c u
   begins c u x = record { moves = λ st did h. (st, h); within = λ e. x }
 
-  within-on : (on : Bool) (did : Performed J (Both I)) (c : Connection R) (u : Turn J) (m : Move J (Both I)) → Went v on did c u m → on ≡ true
+  pub within-on : (on : Bool) (did : Performed J (Both I)) (c : Connection R) (u : Turn J) (m : Move J (Both I)) → Went v on did c u m → on ≡ true
       → IsWithin v c u
   within-on true did c u m w e = (w.0, (w.1.ledger, w.1.inner, w.1.within))
   within-on false did c u m w e = absurd (let f : false ≡ true = e in cc)

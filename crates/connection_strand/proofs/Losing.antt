@@ -1,5 +1,5 @@
 -- The end of a life, and of a client.
-use Rattle.std.proofs.Common.{◌≡◌, ℕ, Bool, true, false, not, ◌⊎◌, inl, inr, List, [], ◌∷◌, ◌++◌, map, Some, None, if◌then◌else◌, refl, sym, ap, ◌∙◌, subst, append_assoc}
+use Rattle.std.proofs.Common.{◌≡◌, ℕ, Bool, true, false, not, ◌⊎◌, inl, inr, List, [], ◌∷◌, ◌++◌, map, Some, None, if◌then◌else◌, refl, sym, ap, ◌∙◌, subst, append_assoc, append-nil}
 use Rattle.send_queue.specs.Queues as queues
 use Rattle.strand_contract.specs.declared.turns.Act.{Act}
 use Rattle.strand_contract.specs.declared.turns.Act.TheVariants as act
@@ -31,7 +31,7 @@ use Rattle.connection_strand.specs.Acts.{hang_ups}
 use Rattle.connection_strand.specs.Kept.{Kept, kept, kept_of, waits_of, stage_of}
 use Rattle.connection_strand.specs.Standing.{Moment, plain, Serves, Within, Toward, Came, Goes, IsAt, before, places}
 use Rattle.connection_strand.specs.Turns.{Told}
-use Rattle.connection_strand.proofs.Moving.{IsSameRun, one-more, stays-within}
+use Rattle.connection_strand.proofs.Moving.{IsSameRun, one-more, stays-within, as-it-was}
 use Rattle.connection_strand.proofs.Sockets.{without-none}
 
 -- no run is there, in code
@@ -197,6 +197,13 @@ module _ {R J I : Type 0} (v : View R J I) where
               ∙ ap (λ ps. before u.acts.items (perform m (record b { opened = ps }) s)) (without-none place.Client b.opened none);
         }
 
+    pub hangs-up-if : (o : Bool) (e : Moment J) (did : Performed J (Both I)) (c c' : Connection R) (u u' : Turn J) (m : Move J (Both I)) → IsSameRun c c' → c.client.is_open ≡ o
+        → kept c'.client ≡ (if o then record (kept c.client) { opened = false; sending = queues.dropped (kept c.client).sending } else kept c.client)
+        → u'.is_offered ≡ u.is_offered → u'.acts.items ≡ u.acts.items ++ client_act o → To e did c u (HangUp place.Client m) → To e did c' u' m
+    hangs-up-if true e did c c' u u' m same opened client offered acts h = hangs-up e did c c' u u' m same opened client acts h
+    hangs-up-if false e did c c' u u' m same shut client offered acts h =
+        as-it-was v lawful apart e did c c' u u' m same client offered (acts ∙ append-nil u.acts.items) (hangs-not e did c u m shut h)
+
   -- ---- the client is lost
 
   not-busy : (now : ℕ) (st : Stage) (s : Both I) → (st ≡ stage.Busy → ⊥) → lose_at (service v) now st s ≡ finish
@@ -277,6 +284,3 @@ module _ {R J I : Type 0} (v : View R J I) where
 
   pub has-run : (c : Connection R) (u : Turn J) → IsAt v stage.Busy c u → c.run ≡ None → ⊥
   has-run c u h e = let f : None ≡ Some h.2.run.0 = sym e ∙ h.2.run.1 in cc
-
-  pub busy-is : (c : Connection R) (u : Turn J) → IsAt v stage.Busy c u → (kept c.client).stage ≡ stage.Busy
-  busy-is c u h = ap (λ (k : Kept). k.stage) h.2.serves.client ∙ h.2.at

@@ -1,5 +1,5 @@
 -- What the connection's own moves leave.
-use Rattle.std.proofs.Common.{◌≡◌, ℕ, Bool, true, false, List, [], ◌∷◌, ◌++◌, Option, Some, None, if◌then◌else◌, refl, sym, ap, ◌∙◌, subst, append_assoc}
+use Rattle.std.proofs.Common.{◌≡◌, ℕ, Bool, true, false, List, [], ◌∷◌, ◌++◌, Option, Some, None, if◌then◌else◌, refl, sym, ap, ◌∙◌, subst, append_assoc, append-nil}
 use Rattle.strand_contract.specs.declared.turns.Act.{Act}
 use Rattle.strand_contract.specs.declared.turns.Act.TheVariants as act
 use Rattle.strand_plans.specs.Questions.{Question, asking_if}
@@ -17,10 +17,11 @@ use Rattle.connection_plan.specs.Clients.{Stage, Client}
 use Rattle.connection_plan.specs.Clients as stage
 use Rattle.connection_plan.specs.Services.{Both}
 use Rattle.connection_plan.specs.Timers.{Timer, number_of, time_of, later}
+use Rattle.connection_plan.specs.Timers as timer
 use Rattle.connection_plan.specs.Turns.{is_there, begin_timer, end_timer}
 use Rattle.connection_plan.specs.Conditions.{AgreesWithin}
 use Rattle.connection_plan.proofs.Alike.{blank-alike}
-use Rattle.connection_plan.proofs.Lifted.{SameRun, deed-same, made-same}
+use Rattle.connection_plan.proofs.Lifted.{SameRun, same-run-refl, deed-same, made-same}
 use Rattle.connection_plan.proofs.Steps.{own-number, armed-same, cancelled-same}
 use Rattle.connection_plan.proofs.Stays.{within-alike}
 use Rattle.connection_strand.specs.Views.{View, service}
@@ -38,6 +39,13 @@ pub record IsSameRun {R : Type 0} (c c' : Connection R) : Type 0 where
   pub count : c'.count ≡ c.count
   pub keeping : c'.keeping ≡ c.keeping
   pub taking : c'.is_taking ≡ c.is_taking
+
+-- a deadline that isn't armed may be cancelled
+pub unarmed-same : (t : Timer) (k : Kept) → is_armed t k ≡ false → with_armed t false k ≡ k
+unarmed-same timer.Header k e = ap (λ (x : Bool). record k { waits = x }) (sym e)
+unarmed-same timer.Keepalive k e = ap (λ (x : Bool). record k { waits = x }) (sym e)
+unarmed-same timer.Body k e = ap (λ (x : Bool). record k { waits = x }) (sym e)
+unarmed-same timer.Send k e = ap (λ (x : Bool). record k { sends = x }) (sym e)
 
 -- ---- what is still to be done of the run's turn, in ledgers that are the same to the run
 
@@ -115,6 +123,31 @@ module _ {R J I : Type 0} (v : View R J I)
         made = h.made ∙ made-of-same e b b' same;
       }
 
+  -- nothing changed
+  pub as-it-was : (e : Moment J) (did : Performed J (Both I)) (c c' : Connection R) (u u' : Turn J) (m : Move J (Both I)) → IsSameRun c c' → kept c'.client ≡ kept c.client
+      → u'.is_offered ≡ u.is_offered → u'.acts.items ≡ u.acts.items → Toward v e did c u m → Toward v e did c' u' m
+  as-it-was e did c c' u u' m same client offered acts h =
+      let b = h.ledger in
+      let s = h.inner in
+      let w = h.within.serves in
+      record {
+        ledger = b;
+        inner = s;
+        within = stays-within e c c' u u' b b s s h.within (same-run-refl b) refl refl same.run same.waits (record {
+          client = client ∙ w.client;
+          sockets = w.sockets ∙ ap (places (is_there b)) (sym same.sockets);
+          count = same.count ∙ w.count;
+          keeping = same.keeping ∙ w.keeping;
+          offered = λ there. offered ∙ w.offered there;
+          taking = λ there. same.taking ∙ w.taking there;
+          counted = w.counted;
+          once = w.once;
+          none_asked = w.none_asked;
+          on = w.on;
+        });
+        leads = h.leads ∙ ap (λ xs. before xs (perform m b s)) (sym acts);
+      }
+
   -- ---- timers
 
   pub begins : (now : ℕ) (t : Timer) (e : Moment J) (did : Performed J (Both I)) (c c' : Connection R) (u u' : Turn J) (m : Move J (Both I)) (time : ℕ)
@@ -147,7 +180,7 @@ module _ {R J I : Type 0} (v : View R J I)
             (acts ∙ ap (λ n. u.acts.items ++ act.Arm (number_of t) (later now n) ∷ []) is) h.leads;
       }
 
-  pub ends-armed : (now : ℕ) (t : Timer) (e : Moment J) (did : Performed J (Both I)) (c c' : Connection R) (u u' : Turn J) (m : Move J (Both I))
+  ends-armed : (now : ℕ) (t : Timer) (e : Moment J) (did : Performed J (Both I)) (c c' : Connection R) (u u' : Turn J) (m : Move J (Both I))
       → IsSameRun c c' → is_armed t (kept c.client) ≡ true → kept c'.client ≡ with_armed t false (kept c.client) → u'.is_offered ≡ u.is_offered
       → u'.acts.items ≡ u.acts.items ++ act.Cancel (number_of t) ∷ []
       → Toward v e did c u (end_timer (service v) now t m) → Toward v e did c' u' m
@@ -176,7 +209,7 @@ module _ {R J I : Type 0} (v : View R J I)
             (h.leads ∙ ap (λ (x : Bool). before u.acts.items (perform (if x then move.Cancel (number_of t) m else m) b s)) there);
       }
 
-  pub ends-unarmed : (now : ℕ) (t : Timer) (e : Moment J) (did : Performed J (Both I)) (c : Connection R) (u : Turn J) (m : Move J (Both I))
+  ends-unarmed : (now : ℕ) (t : Timer) (e : Moment J) (did : Performed J (Both I)) (c : Connection R) (u : Turn J) (m : Move J (Both I))
       → is_armed t (kept c.client) ≡ false → Toward v e did c u (end_timer (service v) now t m) → Toward v e did c u m
   ends-unarmed now t e did c u m armed h =
       let b = h.ledger in
@@ -188,3 +221,11 @@ module _ {R J I : Type 0} (v : View R J I)
         within = h.within;
         leads = h.leads ∙ ap (λ (x : Bool). before u.acts.items (perform (if x then move.Cancel (number_of t) m else m) b s)) none;
       }
+
+  pub ends-if : (o : Bool) (now : ℕ) (t : Timer) (e : Moment J) (did : Performed J (Both I)) (c c' : Connection R) (u u' : Turn J) (m : Move J (Both I))
+      → IsSameRun c c' → is_armed t (kept c.client) ≡ o → kept c'.client ≡ with_armed t false (kept c.client) → u'.is_offered ≡ u.is_offered
+      → u'.acts.items ≡ u.acts.items ++ (if o then act.Cancel (number_of t) ∷ [] else [])
+      → Toward v e did c u (end_timer (service v) now t m) → Toward v e did c' u' m
+  ends-if true now t e did c c' u u' m same armed cancels offered acts h = ends-armed now t e did c c' u u' m same armed cancels offered acts h
+  ends-if false now t e did c c' u u' m same none cancels offered acts h =
+      as-it-was e did c c' u u' m same (cancels ∙ unarmed-same t (kept c.client) none) offered (acts ∙ append-nil u.acts.items) (ends-unarmed now t e did c u m none h)

@@ -58,10 +58,6 @@ module _ {R J I : Type 0} (v : View R J I)
   abbrev Asks : ℕ → Move J (Both I) → Asking → Move J (Both I)
   Asks now again q = Look (λ b s. answer_asked (service v) now again b s.client q)
 
-  pub asked-as : (now : ℕ) (again : Move J (Both I)) (did : Performed J (Both I)) (c : Connection R) (u : Turn J) (q x : Asking) → q ≡ x
-      → To (plain stage.Busy) did c u (Asks now again q) → To (plain stage.Busy) did c u (Asks now again x)
-  asked-as now again did c u q x is h = subst (λ (y : Asking). To (plain stage.Busy) did c u (Asks now again y)) is h
-
   -- whether all is taken
   pub asked-taken : (now : ℕ) (again : Move J (Both I)) (did : Performed J (Both I)) (c : Connection R) (u : Turn J) (x : RunSeen) → x ≡ seen_of_taken (kept c.client)
       → To (plain stage.Busy) did c u (Asks now again asking.AllTaken) → To (plain stage.Busy) did c u (tell (service v) now x again)

@@ -53,10 +53,6 @@ module _ {R : Type 0} (left : R → ℕ) (bound : ℕ) where
   abbrev pub Falls : {J : Type 0} → Connection R → Turn J → Connection R → Turn J → Type 0
   Falls c u c' u' = left_of c' + length u'.acts.items < whole c + length u.acts.items
 
-  -- it pays for itself, and for so much more
-  abbrev pub FallsBy : {J : Type 0} → ℕ → Connection R → Turn J → Connection R → Turn J → Type 0
-  FallsBy n c u c' u' = left_of c' + length u'.acts.items + n ≤ whole c + length u.acts.items
-
   -- what is heard: a request begins a run; the reply to a head that is refused is paid for, and a wait arms a deadline, and with these the turn ends
   abbrev pub Heard : {J : Type 0} → LineOut → Bool → Connection R → Turn J → Connection R → Turn J → Type 0
   Heard (out.Request head target) on c u c' u' = Spends (unit * (bound + 1)) c u c' u'

@@ -1,5 +1,7 @@
 -- What is kept of a client in code, in plain values, and what that is by the plan of its connection.
 use Rattle.std.specs.Prelude.{ℕ, ◌%◌, Bool, false, not, ◌&&◌, [], Option, if◌then◌else◌}
+use Rattle.client_line.specs.declared.line.Held.{Held}
+use Rattle.client_line.specs.declared.line.Held.TheVariants as held
 use Rattle.client_line.specs.Records.{Came}
 use Rattle.client_line.specs.Lines.{nothing, body_answer}
 use Rattle.send_queue.specs.Records.{Sending}
@@ -135,6 +137,17 @@ with_armed t c k = record k { waits = c }
 abbrev pub is_armed : Timer → Kept → Bool
 is_armed timer.Send k = k.sends
 is_armed t k = k.waits
+
+-- more of a head or of a body that is dropped is waited for: the stage at which it is, and the timer that runs
+abbrev pub stage_waiting : Held → Stage
+stage_waiting held.Body = stage.Drop
+stage_waiting held.Nothing = stage.Idle
+stage_waiting h = stage.Head
+
+abbrev pub timer_waiting : Held → Timer
+timer_waiting held.Body = timer.Body
+timer_waiting held.Nothing = timer.Keepalive
+timer_waiting h = timer.Header
 
 -- another location answers the request
 abbrev pub with_times : LocationTimes → Kept → Kept

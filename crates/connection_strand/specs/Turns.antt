@@ -1,5 +1,6 @@
 -- What turns of a run come to within those of their connection.
-use Rattle.std.specs.Prelude.{◌≡◌, ℕ, Bool, true, false, Option, Some, None, List, [], ◌∷◌}
+use Rattle.std.specs.Prelude.{Result, Ok, ◌≡◌, ℕ, Bool, true, false, Option, Some, None, List, [], ◌∷◌}
+use Rattle.std.specs.declared.alloc.AllocError.{AllocError}
 use Rattle.client_line.specs.declared.requests.LineOut.{LineOut}
 use Rattle.client_line.specs.declared.requests.LineOut.TheVariants as out
 use Rattle.client_line.specs.Records.{At}
@@ -123,6 +124,10 @@ module _ {R J I : Type 0} (v : View R J I) (now : ℕ) where
   HearsWord w c u c' u' = (st : Stage) (ds : List Deed) (a : Asks J) (rest : List (RunAct J)) (did : Performed J (Both I)) (m : Move J (Both I))
       → Toward v (taking st (Say w ∷ ds) a (made.Say w ∷ rest)) did c u (says (service v) now w m) → Toward v (taking (stage_after w st) ds a rest) did c' u' m
 
+  -- where a call went on, what is there is settled; so its turn comes to its end
+  abbrev pub SettlesOn : Result Bool AllocError → Connection R → Turn J → Connection R → Turn J → Type 0
+  SettlesOn went c u c' u' = (on : Bool) × (went ≡ Ok on) × ((did : Performed J (Both I)) → Went v on did c u (settle (service v) now) → Came v did c' u')
+
   -- ---- an answer from the outside
 
   -- its turn begins with this answer, and comes to its end: the run is given it once the sockets are as the answer has them, and what is there is settled
@@ -134,10 +139,3 @@ module _ {R J I : Type 0} (v : View R J I) (now : ℕ) where
 
   abbrev pub TakesAnswer : Answer → Connection R → Turn J → Connection R → Turn J → Type 0
   TakesAnswer given c u c' u' = (did : Performed J (Both I)) → IsGiven given did c u → Came v did c' u'
-
-  -- the run is given it, and what is there is settled
-  abbrev pub MayGiveAnswer : Answer → Connection R → Turn J → Type 0
-  MayGiveAnswer given c u = (did : Performed J (Both I)) × Answered given did c u (settle (service v) now)
-
-  abbrev pub GivesAnswer : Answer → Connection R → Turn J → Connection R → Turn J → Type 0
-  GivesAnswer given c u c' u' = (did : Performed J (Both I)) → Answered given did c u (settle (service v) now) → Came v did c' u'

@@ -3,7 +3,7 @@
 ghost use Rattle.std.specs.Prelude.{◌≡◌};
 ghost use Rattle.connection_plan.specs.Timers as timers;
 
-use client_line::Line;
+use client_line::{Held, Line};
 use connection_plan::Times;
 use http_bodies::BodyRead;
 use resty_base::{Bytes, Ms};
@@ -144,14 +144,14 @@ pub(crate) struct Client {
 }
 
 impl Client {
-    ghost use Rattle.std.specs.Prelude.{not, false, ◌≡◌, ◌&&◌, IfOk};
-    ghost use Rattle.client_line.specs.Lines.{after_asked, body_answer};
+    ghost use Rattle.std.specs.Prelude.{not, false, ◌≡◌, ◌&&◌, if◌then◌else◌, IfOk};
+    ghost use Rattle.client_line.specs.Lines.{after_asked, body_answer, held_in};
     ghost use Rattle.send_queue.specs.Queues as queues;
     ghost use Rattle.connection_plan.specs.Clients.{is_last};
     ghost use Rattle.connection_plan.specs.Clients as stage;
     ghost use Rattle.connection_plan.specs.Turns.{is_more};
     ghost use Rattle.connection_plan.specs.Serving as serving;
-    ghost use Rattle.connection_strand.specs.Kept.{kept, timer_of, fresh, with_armed, is_armed, with_times, all_taken, wants_offer};
+    ghost use Rattle.connection_strand.specs.Kept.{kept, timer_of, fresh, with_armed, is_armed, with_times, all_taken, wants_offer, stage_waiting, timer_waiting};
     ghost use Rattle.connection_strand.specs.Kept.{seen_of_body, seen_of_taken};
 
     /// As a connection begins, for a client or for a job; takes no memory.
@@ -219,6 +219,27 @@ impl Client {
         }
     }
 
+    /// What is waited for: more of a body that is dropped, the first byte of a head, or the rest of one. It returns the timer that runs.
+    pub(crate) fn wait(&mut self) -> Timer
+        ensures stage { kept self.new ≡ record (kept self.old) { stage = stage_waiting (held_in (kept self.old).came.at (kept self.old).came.held) } }
+        ensures timer { timer_of result ≡ timer_waiting (held_in (kept self.old).came.at (kept self.old).came.held) }
+    {
+        match self.line.held() {
+            Held::Body => {
+                self.stage = Stage::Drop;
+                Timer::Body
+            }
+            Held::Nothing => {
+                self.stage = Stage::Idle;
+                Timer::Keepalive
+            }
+            Held::Request | Held::Begun => {
+                self.stage = Stage::Head;
+                Timer::Header
+            }
+        }
+    }
+
     /// Whether nothing of what was sent is left to be taken.
     pub(crate) fn is_all_taken(&self) -> bool
         ensures { result ≡ all_taken (kept self.now) }
@@ -254,8 +275,10 @@ impl Client {
     {
         match self.line.body(self.limit) {
             BodyRead::Whole(_) => {
-                let content = Bytes::copy_from_slice(alloc, self.line.body_bytes())?;
-                Ok(Some(RunSeen::Body(content, self.waited)))
+                match Bytes::copy_from_slice(alloc, self.line.body_bytes()) {
+                    Ok(content) => Ok(Some(RunSeen::Body(content, self.waited))),
+                    Err(error) => Err(error),
+                }
             }
             BodyRead::Refused(code) => Ok(Some(RunSeen::BodyRefused(code))),
             BodyRead::More if self.is_open && !self.has_ended => Ok(None),
@@ -275,11 +298,14 @@ impl Client {
         }
     }
 
-    /// It is hung up.
+    /// It is hung up, where it is there.
     pub(crate) fn hang_up(&mut self)
-        ensures { kept self.new ≡ record (kept self.old) { opened = false; sending = queues.dropped (kept self.old).sending } }
+        ensures { kept self.new
+            ≡ (if self.old.is_open then record (kept self.old) { opened = false; sending = queues.dropped (kept self.old).sending } else kept self.old) }
     {
-        self.is_open = false;
-        self.line.gone();
+        if self.is_open {
+            self.is_open = false;
+            self.line.gone();
+        }
     }
 }

@@ -1,7 +1,7 @@
 //! Requests in turn: heads that are heard, and what is waited for; and the end of a client.
 
 use crate::client::{Reply, Stage, Timer};
-use crate::state::{Connection, Turn, going, put};
+use crate::state::{Connection, Turn, both, ended, going, put, put_if};
 use crate::waits::Waits;
 use client_line::{Held, LineOut};
 use connection_plan::ServiceContract;
@@ -52,27 +52,15 @@ impl<R: ServiceContract> Connection<R> {
         ensures costs { IfOk result (λ done. Costs R.left R.bound 0 self.old turn.old self.new turn.new) }
         ensures falls { IfOk result (λ done. Falls R.left R.bound self.old turn.old self.new turn.new) }
     {
-        if self.client.is_open {
-            put(&mut turn.acts, Act::HangUp(Place::Client))?;
-        }
-        self.hang_up_sockets(turn)?;
+        let client = put_if(
+            self.client.is_open,
+            &mut turn.acts,
+            Act::HangUp(Place::Client),
+        );
+        let sockets = self.hang_up_sockets(turn);
         self.client.stage = Stage::Over;
-        put(&mut turn.acts, Act::Gone)
-    }
-
-    /// The client is hung up, where it is there.
-    fn hang_up(&mut self, turn: &mut Turn<R::Job>, _site: &R::Site) -> Result<(), AllocError>
-        ensures moves { let view = view_of (R.meaning _site.now) (R.serving _site.now) in IfOk result (λ done. Goes view
-            (HangUp place.Client) self.old turn.old self.new turn.new) }
-        ensures waits { self.new.waits ≡ self.old.waits }
-        ensures costs { IfOk result (λ done. Spends R.left R.bound 0 self.old turn.old self.new turn.new) }
-        ensures pays { self.old.client.is_open ≡ true → IfOk result (λ done. Pays R.left R.bound 3 self.old turn.old self.new turn.new) }
-    {
-        if !self.client.is_open {
-            return Ok(());
-        }
-        self.client.hang_up();
-        put(&mut turn.acts, Act::HangUp(Place::Client))
+        let gone = put(&mut turn.acts, Act::Gone);
+        both(client, both(sockets, gone))
     }
 
     /// The client is hung up, and nothing of it is waited for.
@@ -84,31 +72,15 @@ impl<R: ServiceContract> Connection<R> {
         ensures costs { IfOk result (λ done. Spends R.left R.bound 0 self.old turn.old self.new turn.new) }
         ensures pays { self.old.client.is_open ≡ true → IfOk result (λ done. Pays R.left R.bound 3 self.old turn.old self.new turn.new) }
     {
-        self.hang_up(turn, site)?;
-        self.end_timer(turn, site, Timer::Body)?;
-        self.end_timer(turn, site, Timer::Send)
-    }
-
-    /// The client of a run that goes on is lost: it is hung up, and the run is told so.
-    fn lose_busy(
-        &mut self,
-        turn: &mut Turn<R::Job>,
-        alloc: Global,
-        site: &R::Site,
-        now: Ms,
-    ) -> Result<(), AllocError>
-        requires within { let view = view_of (R.meaning site.now) (R.serving site.now) in IsAt view stage.Busy self.old turn.old }
-        requires unasked { self.old.waits.asks ≡ None }
-        ensures moves { let view = view_of (R.meaning site.now) (R.serving site.now) in IfOk result (λ done. Ends view
-            (lose (service view) now.0) self.old turn.old self.new turn.new) }
-        ensures costs { IfOk result (λ done. Costs R.left R.bound 0 self.old turn.old self.new turn.new) }
-        ensures falls { self.old.client.is_open ≡ true → IfOk result (λ done. Falls R.left R.bound self.old turn.old self.new turn.new) }
-    {
-        self.let_client_go(turn, site)?;
-        if self.waits.client {
-            self.tell(turn, alloc, site, now, RunSeen::ClientGone)?;
-        }
-        Ok(())
+        let client = put_if(
+            self.client.is_open,
+            &mut turn.acts,
+            Act::HangUp(Place::Client),
+        );
+        self.client.hang_up();
+        let body = self.end_timer(turn, site, Timer::Body);
+        let send = self.end_timer(turn, site, Timer::Send);
+        both(client, both(body, send))
     }
 
     /// The client is lost: it is hung up, and a run that goes on is told so.
@@ -127,7 +99,16 @@ impl<R: ServiceContract> Connection<R> {
         ensures falls { self.old.client.is_open ≡ true → IfOk result (λ done. Falls R.left R.bound self.old turn.old self.new turn.new) }
     {
         match self.client.stage {
-            Stage::Busy => self.lose_busy(turn, alloc, site, now),
+            Stage::Busy => match self.let_client_go(turn, site) {
+                Ok(()) => {
+                    if self.waits.client {
+                        ended(self.tell(turn, alloc, site, now, RunSeen::ClientGone))
+                    } else {
+                        Ok(())
+                    }
+                }
+                Err(error) => Err(error),
+            },
             Stage::Idle | Stage::Head | Stage::Flush | Stage::Drop | Stage::Over => {
                 self.finish(turn, site)
             }
@@ -151,17 +132,11 @@ impl<R: ServiceContract> Connection<R> {
         let times = R::times_of(site, &head, &target);
         let expects = head.expects;
         let begun = R::begin(alloc, site, now, self.count, head, target);
-        match self.end_timer(turn, site, Timer::Header) {
-            Ok(()) => {
-                self.client.begin_request(times, expects);
-                self.waits = Waits::at_first(true);
-                self.take_run(turn, site, now, begun)
-            }
-            Err(error) => {
-                drop(begun);
-                Err(error)
-            }
-        }
+        let header = self.end_timer(turn, site, Timer::Header);
+        self.client.begin_request(times, expects);
+        self.waits = Waits::at_first(true);
+        let went = self.take_run(turn, site, now, begun);
+        both(header, went)
     }
 
     /// Sends the reply to a head that is refused.
@@ -198,11 +173,12 @@ impl<R: ServiceContract> Connection<R> {
         self.client.stage = Stage::Flush;
         self.client.times = R::default_times(site);
         self.client.reply = Reply::Whole(true);
-        self.send_refusal(turn, alloc, site, now, code)?;
+        let sent = self.send_refusal(turn, alloc, site, now, code);
         if self.client.is_all_taken() {
-            return self.finish(turn, site);
+            both(sent, self.finish(turn, site))
+        } else {
+            sent
         }
-        Ok(())
     }
 
     /// A head is refused: nothing more is read; after a fault in a body that is dropped the connection closes.
@@ -221,48 +197,10 @@ impl<R: ServiceContract> Connection<R> {
         ensures costs { is_last (kept self.old.client).reply ≡ false → IfOk result (λ done. Costs R.left R.bound 0 self.old turn.old self.new turn.new) }
     {
         let held = self.client.line.held();
-        self.end_timer(turn, site, Timer::Header)?;
+        let header = self.end_timer(turn, site, Timer::Header);
         match held {
-            Held::Begun => self.refuse_head(turn, alloc, site, now, code),
-            Held::Request | Held::Body | Held::Nothing => self.finish(turn, site),
-        }
-    }
-
-    /// It goes to this stage, and the timer begins.
-    fn wait_at(
-        &mut self,
-        turn: &mut Turn<R::Job>,
-        site: &R::Site,
-        now: Ms,
-        stage: Stage,
-        timer: Timer,
-    ) -> Result<(), AllocError>
-        ensures moves { let view = view_of (R.meaning site.now) (R.serving site.now) in IfOk result (λ done. IsFree (stage_of stage) → Hears view false
-            (λ rest. change (λ c. record c { stage = stage_of stage })
-            (begin_timer (service view) now.0 (timer_of timer) Done)) self.old turn.old self.new turn.new) }
-        ensures costs { IfOk result (λ done. Spends R.left R.bound 5 self.old turn.old self.new turn.new) }
-    {
-        self.client.stage = stage;
-        self.begin_timer(turn, site, now, timer)
-    }
-
-    /// What is waited for: more of a body that is dropped, the first byte of a head, or the rest of one.
-    fn wait(&mut self, turn: &mut Turn<R::Job>, site: &R::Site, now: Ms) -> Result<(), AllocError>
-        ensures moves { let view = view_of (R.meaning site.now) (R.serving site.now) in IfOk result (λ done. Hears view false
-            (λ rest. Look (λ b s. wait_for (service view) now.0 (held_in s.client.came.at s.client.came.held)))
-            self.old turn.old self.new turn.new) }
-        ensures costs { IfOk result (λ done. Spends R.left R.bound 5 self.old turn.old self.new turn.new) }
-    {
-        match self.client.line.held() {
-            Held::Body => self.wait_at(turn, site, now, Stage::Drop, Timer::Body),
-            Held::Nothing => self.wait_at(turn, site, now, Stage::Idle, Timer::Keepalive),
-            Held::Request | Held::Begun => self.wait_at(
-                turn,
-                site,
-                now,
-                Stage::Head,
-                Timer::Header,
-            ),
+            Held::Begun => both(header, self.refuse_head(turn, alloc, site, now, code)),
+            Held::Request | Held::Body | Held::Nothing => both(header, self.finish(turn, site)),
         }
     }
 
@@ -280,11 +218,13 @@ impl<R: ServiceContract> Connection<R> {
         ensures costs { IfOk result (λ on. Heard R.left R.bound answer.Waiting on self.old turn.old self.new turn.new) }
     {
         if self.client.has_ended {
-            self.finish(turn, site)?;
+            going(self.finish(turn, site), false)
         } else if anew {
-            self.wait(turn, site, now)?;
+            let timer = self.client.wait();
+            going(self.begin_timer(turn, site, now, timer), false)
+        } else {
+            Ok(false)
         }
-        Ok(false)
     }
 
     /// What came was answered so. Where more is waited for, a timer begins, or goes on; a client that ended is hung up.

@@ -4,7 +4,7 @@ ghost use Rattle.std.specs.Prelude.{◌≡◌};
 ghost use Rattle.connection_plan.specs.Turns.{continue_reply};
 
 use crate::client::{Reply, Stage, Timer};
-use crate::state::{Connection, Turn};
+use crate::state::{Connection, Turn, both};
 use connection_plan::ServiceContract;
 use resty_base::{Bytes, Ms};
 use run_contract::Said;
@@ -46,9 +46,13 @@ impl<R: ServiceContract> Connection<R> {
                 }
                 self.client.waited = true;
                 if self.client.expects {
-                    self.send(turn, site, &continue_reply())?;
+                    let reply = continue_reply();
+                    let sent = self.send(turn, site, &reply);
+                    drop(reply);
+                    sent
+                } else {
+                    Ok(())
                 }
-                Ok(())
             }
             Reply::Begun | Reply::Whole(_) => Ok(()),
         }
@@ -66,10 +70,8 @@ impl<R: ServiceContract> Connection<R> {
         ensures waits { self.new.waits ≡ self.old.waits }
         ensures costs { IfOk result (λ done. Spends R.left R.bound 406 self.old turn.old self.new turn.new) }
     {
-        match self.let_send(turn, site) {
-            Ok(()) => self.begin_timer(turn, site, now, Timer::Body),
-            Err(error) => Err(error),
-        }
+        let sent = self.let_send(turn, site);
+        both(sent, self.begin_timer(turn, site, now, Timer::Body))
     }
 
     /// A piece of the body came: where the run waits for more of it, the timer begins anew.
@@ -87,18 +89,6 @@ impl<R: ServiceContract> Connection<R> {
         } else {
             Ok(())
         }
-    }
-
-    /// Nothing of the run is left to be done.
-    fn end_run(&mut self, turn: &mut Turn<R::Job>, site: &R::Site) -> Result<(), AllocError>
-        ensures moves { let view = view_of (R.meaning site.now) (R.serving site.now) in IfOk result (λ done.
-            HearsWord view 0 said.Over self.old turn.old self.new turn.new) }
-        ensures costs { IfOk result (λ done. Spends R.left R.bound unit self.old turn.old self.new turn.new) }
-    {
-        self.end_timer(turn, site, Timer::Body)?;
-        self.client.stage = Stage::Flush;
-        self.run = None;
-        Ok(())
     }
 
     /// The run says this.
@@ -131,7 +121,12 @@ impl<R: ServiceContract> Connection<R> {
                 self.client.reply = Reply::Whole(*closes);
                 Ok(())
             }
-            Said::Over => self.end_run(turn, site),
+            Said::Over => {
+                let body = self.end_timer(turn, site, Timer::Body);
+                self.client.stage = Stage::Flush;
+                self.run = None;
+                body
+            }
         }
     }
 }

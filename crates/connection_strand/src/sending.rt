@@ -1,6 +1,6 @@
 //! What is sent to the client, and offers of it.
 
-use crate::state::{Connection, Turn, put};
+use crate::state::{Connection, Turn, both, put};
 use connection_plan::ServiceContract;
 use resty_base::Bytes;
 use std::alloc::AllocError;
@@ -27,10 +27,11 @@ impl<R: ServiceContract> Connection<R> {
         ensures costs { IfOk result (λ done. Spends R.left R.bound 1 self.old turn.old self.new turn.new) }
     {
         if self.client.wants_offer() && !turn.is_offered {
-            put(&mut turn.acts, Act::Offer(Place::Client))?;
             turn.is_offered = true;
+            put(&mut turn.acts, Act::Offer(Place::Client))
+        } else {
+            Ok(())
         }
-        Ok(())
     }
 
     /// Sends bytes to the client, where it is there.
@@ -48,7 +49,7 @@ impl<R: ServiceContract> Connection<R> {
         if !self.client.is_open {
             return Ok(());
         }
-        self.client.line.queue(bytes)?;
-        self.ask_for_offer(turn, site)
+        let queued = self.client.line.queue(bytes);
+        both(queued, self.ask_for_offer(turn, site))
     }
 }

@@ -18,6 +18,7 @@ impl<R: ServiceContract> Connection<R> {
     ghost use Rattle.connection_strand.specs.Costs.{unit, Pays, Costs, Settles};
     ghost use Rattle.connection_strand.specs.Kept.{Kept, seen_of_body, waits_of};
     ghost use Rattle.connection_strand.specs.Standing.{Ends, GoesOn, Hears, Steps, IsAt, IsWithin};
+    ghost use Rattle.connection_strand.specs.Turns.{SettlesOn};
 
     /// The run is told this of the body that it asks or waits for.
     fn tell_body(
@@ -37,7 +38,10 @@ impl<R: ServiceContract> Connection<R> {
     {
         match self.end_timer(turn, site, Timer::Body) {
             Ok(()) => self.tell(turn, alloc, site, now, seen),
-            Err(error) => Err(error),
+            Err(error) => {
+                drop(seen);
+                Err(error)
+            }
         }
     }
 
@@ -104,30 +108,6 @@ impl<R: ServiceContract> Connection<R> {
         }
     }
 
-    /// What the run asks is answered.
-    fn answer_asked(
-        &mut self,
-        turn: &mut Turn<R::Job>,
-        alloc: Global,
-        site: &R::Site,
-        now: Ms,
-        asking: Asking,
-    ) -> Result<bool, AllocError>
-        requires within { let view = view_of (R.meaning site.now) (R.serving site.now) in IsAt view stage.Busy self.old turn.old }
-        requires asks { self.old.waits.asks ≡ Some asking }
-        ensures moves { let view = view_of (R.meaning site.now) (R.serving site.now) in IfOk result (λ on. GoesOn view stage.Busy on
-            (λ again. Look (λ b s. answer_asked (service view) now.0 again b s.client asking)) self.old turn.old self.new turn.new) }
-        ensures costs { IfOk result (λ on. Settles R.left R.bound on self.old turn.old self.new turn.new) }
-    {
-        match asking {
-            Asking::Body(max) => self.answer_body(turn, alloc, site, now, max),
-            Asking::AllTaken => {
-                let seen = self.client.taken_seen();
-                self.tell(turn, alloc, site, now, seen)
-            }
-        }
-    }
-
     /// The run that waits is told what is there; a client that took the last reply is hung up.
     fn waiting(
         &mut self,
@@ -154,25 +134,6 @@ impl<R: ServiceContract> Connection<R> {
         Ok(false)
     }
 
-    /// A run that goes on is answered what it asks, or told what it waits for.
-    fn busy(
-        &mut self,
-        turn: &mut Turn<R::Job>,
-        alloc: Global,
-        site: &R::Site,
-        now: Ms,
-    ) -> Result<bool, AllocError>
-        requires { let view = view_of (R.meaning site.now) (R.serving site.now) in IsAt view stage.Busy self.old turn.old }
-        ensures moves { let view = view_of (R.meaning site.now) (R.serving site.now) in IfOk result (λ on. GoesOn view stage.Busy on
-            (λ again. Look (λ b s. busy (service view) now.0 again b s)) self.old turn.old self.new turn.new) }
-        ensures costs { IfOk result (λ on. Settles R.left R.bound on self.old turn.old self.new turn.new) }
-    {
-        match self.waits.asks {
-            Some(asking) => self.answer_asked(turn, alloc, site, now, asking),
-            None => self.waiting(turn, alloc, site, now),
-        }
-    }
-
     /// The run is over: once all is taken the connection closes, or goes on with the next request.
     fn flush(
         &mut self,
@@ -189,13 +150,12 @@ impl<R: ServiceContract> Connection<R> {
             return Ok(false);
         }
         if !self.client.is_open || self.client.reply.closes_after() {
-            self.finish(turn, site)?;
-            return Ok(false);
+            return going(self.finish(turn, site), false);
         }
         self.next(turn, alloc, site, now)
     }
 
-    /// Settles one thing, and reports whether there may be more.
+    /// Settles one thing, and reports whether there may be more: a run that goes on is answered what it asks, or told what it waits for.
     fn settle_once(
         &mut self,
         turn: &mut Turn<R::Job>,
@@ -209,7 +169,16 @@ impl<R: ServiceContract> Connection<R> {
         ensures costs { IfOk result (λ on. Settles R.left R.bound on self.old turn.old self.new turn.new) }
     {
         match self.client.stage {
-            Stage::Busy => self.busy(turn, alloc, site, now),
+            Stage::Busy => match self.waits.asks {
+                Some(asking) => match asking {
+                    Asking::Body(max) => self.answer_body(turn, alloc, site, now, max),
+                    Asking::AllTaken => {
+                        let seen = self.client.taken_seen();
+                        self.tell(turn, alloc, site, now, seen)
+                    }
+                },
+                None => self.waiting(turn, alloc, site, now),
+            },
             Stage::Flush => self.flush(turn, alloc, site, now),
             Stage::Idle | Stage::Head | Stage::Drop | Stage::Over => Ok(false),
         }
@@ -233,5 +202,31 @@ impl<R: ServiceContract> Connection<R> {
             goes_on = self.settle_once(turn, alloc, site, now)?;
         }
         Ok(())
+    }
+
+    /// Settles all that is there, where the turn went on so far.
+    pub(crate) fn settle_on(
+        &mut self,
+        turn: &mut Turn<R::Job>,
+        alloc: Global,
+        site: &R::Site,
+        now: Ms,
+        went: Result<bool, AllocError>,
+    ) -> Result<(), AllocError>
+        requires { let view = view_of (R.meaning site.now) (R.serving site.now) in IfOk went (λ on. on ≡ true → IsWithin view self.old turn.old) }
+        ensures moves { let view = view_of (R.meaning site.now) (R.serving site.now) in IfOk result (λ done.
+            SettlesOn view now.0 went self.old turn.old self.new turn.new) }
+        ensures costs { IfOk result (λ done. Costs R.left R.bound 5 self.old turn.old self.new turn.new) }
+    {
+        match went {
+            Ok(goes_on) => {
+                if goes_on {
+                    self.settle_all(turn, alloc, site, now)
+                } else {
+                    Ok(())
+                }
+            }
+            Err(error) => Err(error),
+        }
     }
 }

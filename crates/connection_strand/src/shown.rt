@@ -2,7 +2,7 @@
 
 use crate::client::{Stage, Timer};
 use crate::sights::{Event, Sight, Taking, sight_of};
-use crate::state::{Connection, Turn};
+use crate::state::{Connection, Turn, both, ended, going};
 use client_line::LineOut;
 use connection_plan::ServiceContract;
 use resty_base::{Bytes, Ms};
@@ -46,11 +46,8 @@ impl<R: ServiceContract> Connection<R> {
             (λ rest. Look (λ b s. heard_by (service view) now.0 anew (settle (service view) now.0) s.client.came s.client.ended out))
             self.old turn.old self.new turn.new) }
     {
-        let goes_on = self.heard(turn, alloc, site, now, anew, out)?;
-        if !goes_on {
-            return Ok(());
-        }
-        self.settle_all(turn, alloc, site, now)
+        let went = self.heard(turn, alloc, site, now, anew, out);
+        self.settle_on(turn, alloc, site, now, went)
     }
 
     /// Bytes came that are answered so.
@@ -71,10 +68,8 @@ impl<R: ServiceContract> Connection<R> {
         match self.client.stage {
             Stage::Busy => {
                 let_go(out);
-                match self.await_body(turn, site, now) {
-                    Ok(()) => self.settle_all(turn, alloc, site, now),
-                    Err(error) => Err(error),
-                }
+                let went = going(self.await_body(turn, site, now), true);
+                self.settle_on(turn, alloc, site, now, went)
             }
             Stage::Head => self.hear(turn, alloc, site, now, false, out),
             Stage::Idle | Stage::Drop => self.hear(turn, alloc, site, now, true, out),
@@ -92,26 +87,6 @@ impl<R: ServiceContract> Connection<R> {
         alloc: Global,
         site: &R::Site,
         now: Ms,
-        bytes: &[u8],
-    ) -> Result<(), AllocError>
-        requires { let view = view_of (R.meaning site.now) (R.serving site.now) in IsWithin view self.old turn.old }
-        ensures { let view = view_of (R.meaning site.now) (R.serving site.now) in IfOk result (λ done. Ends view
-            (Look (λ b s. came_at (service view) now.0 s.client.stage (fed s.client.came bytes.now) s))
-            self.old turn.old self.new turn.new) }
-    {
-        match self.client.line.fed(bytes) {
-            LineOut::Memory => Err(AllocError),
-            out => self.hear_at(turn, alloc, site, now, out),
-        }
-    }
-
-    /// Takes the turn that begins with bytes of the client.
-    fn take_bytes(
-        &mut self,
-        turn: &mut Turn<R::Job>,
-        alloc: Global,
-        site: &R::Site,
-        now: Ms,
         bytes: Bytes,
     ) -> Result<(), AllocError>
         requires { let view = view_of (R.meaning site.now) (R.serving site.now) in IsWithin view self.old turn.old }
@@ -119,7 +94,12 @@ impl<R: ServiceContract> Connection<R> {
             (Look (λ b s. came_at (service view) now.0 s.client.stage (fed s.client.came bytes) s))
             self.old turn.old self.new turn.new) }
     {
-        self.came(turn, alloc, site, now, &bytes)
+        let answer = self.client.line.fed(&bytes);
+        drop(bytes);
+        match answer {
+            LineOut::Memory => Err(AllocError),
+            out => self.hear_at(turn, alloc, site, now, out),
+        }
     }
 
     /// The client sends no more: a run that goes on is told, and what the client asked for is still answered.
@@ -164,8 +144,8 @@ impl<R: ServiceContract> Connection<R> {
             (seens.Ready place.Client) self.old turn.old self.new turn.new) }
     {
         self.client.is_put_off = false;
-        self.end_timer(turn, site, Timer::Send)?;
-        self.ask_for_offer(turn, site)
+        let send = self.end_timer(turn, site, Timer::Send);
+        both(send, self.ask_for_offer(turn, site))
     }
 
     /// The client took so many of the bytes that it was offered.
@@ -241,11 +221,8 @@ impl<R: ServiceContract> Connection<R> {
         ensures falls { is_of_client seen ≡ false → runs.is_own_turn seen ≡ true →
             IfOk result (λ done. Falls R.left R.bound self.old turn.old self.new turn.new) }
     {
-        let goes_on = self.to_run(turn, alloc, site, now, seen)?;
-        if !goes_on {
-            return Ok(());
-        }
-        self.settle_all(turn, alloc, site, now)
+        let went = self.to_run(turn, alloc, site, now, seen);
+        self.settle_on(turn, alloc, site, now, went)
     }
 
     /// What comes at a socket of the run.
@@ -302,8 +279,7 @@ impl<R: ServiceContract> Connection<R> {
             self.client.is_sending = false;
             return self.lose(turn, alloc, site, now);
         }
-        self.to_run(turn, alloc, site, now, RunSeen::Due(number))?;
-        Ok(())
+        ended(self.to_run(turn, alloc, site, now, RunSeen::Due(number)))
     }
 
     /// Takes the turn that begins with what it is shown.
@@ -322,7 +298,7 @@ impl<R: ServiceContract> Connection<R> {
     {
         match sight_of(seen) {
             Sight::Sock(k, shown) => self.sock(turn, alloc, site, now, k, shown),
-            Sight::Bytes(bytes) => self.take_bytes(turn, alloc, site, now, bytes),
+            Sight::Bytes(bytes) => self.came(turn, alloc, site, now, bytes),
             Sight::Taking(taking) => self.see_taking(turn, alloc, site, now, taking),
             Sight::Event(event) => self.see_event(turn, alloc, site, now, event),
         }

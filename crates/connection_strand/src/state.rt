@@ -1,6 +1,6 @@
 //! A connection, and the turn that it takes.
 
-ghost use Rattle.std.specs.Prelude.{◌≡◌, ◌++◌, ◌∷◌, [], IfOk, Ok};
+ghost use Rattle.std.specs.Prelude.{◌≡◌, ◌++◌, ◌∷◌, [], Bool, if◌then◌else◌, IfOk, Ok};
 
 use crate::client::Client;
 use crate::waits::Waits;
@@ -39,7 +39,26 @@ pub(crate) fn put<J: Drop>(acts: &mut Acts<J>, act: Act<J>) -> Result<(), AllocE
 {
     match acts.push_back(act) {
         Ok(()) => Ok(()),
-        Err(_) => Err(AllocError),
+        Err(refused) => {
+            drop(refused.value);
+            Err(AllocError)
+        }
+    }
+}
+
+/// Puts an act last, where it is due.
+pub(crate) fn put_if<J: Drop>(
+    is_due: bool,
+    acts: &mut Acts<J>,
+    act: Act<J>,
+) -> Result<(), AllocError>
+    ensures { IfOk result (λ done. acts.new.items ≡ acts.old.items ++ (if is_due then act ∷ [] else [])) }
+{
+    if is_due {
+        put(acts, act)
+    } else {
+        drop(act);
+        Ok(())
     }
 }
 
@@ -49,6 +68,42 @@ pub(crate) fn going(done: Result<(), AllocError>, on: bool) -> Result<bool, Allo
 {
     match done {
         Ok(()) => Ok(on),
+        Err(error) => Err(error),
+    }
+}
+
+/// The acts of a turn, where it came to its end.
+pub(crate) fn acts_of<J: Drop>(
+    turn: Turn<J>,
+    done: Result<(), AllocError>,
+) -> Result<Acts<J>, AllocError>
+    ensures { IfOk result (λ acts. (acts.items ≡ turn.acts.items) × (done ≡ Ok tt)) }
+{
+    match done {
+        Ok(()) => Ok(turn.acts),
+        Err(error) => Err(error),
+    }
+}
+
+/// What the second gave, where both were done.
+pub(crate) fn both<T: Drop>(
+    first: Result<(), AllocError>,
+    second: Result<T, AllocError>,
+) -> Result<T, AllocError>
+    ensures { IfOk result (λ x. (first ≡ Ok tt) × (second ≡ Ok x)) }
+{
+    match first {
+        Ok(()) => second,
+        Err(error) => Err(error),
+    }
+}
+
+/// It was done, whether or not the turn goes on.
+pub(crate) fn ended(went: Result<bool, AllocError>) -> Result<(), AllocError>
+    ensures { IfOk result (λ done. (on : Bool) × (went ≡ Ok on)) }
+{
+    match went {
+        Ok(_) => Ok(()),
         Err(error) => Err(error),
     }
 }

@@ -5,7 +5,7 @@ ghost use Rattle.connection_strand.specs.Following.{is_client};
 ghost use Rattle.connection_strand.specs.Shown.{takes_as};
 
 use crate::client::{Client, Stage, Timer};
-use crate::state::{Connection, Turn};
+use crate::state::{Connection, Turn, acts_of, ended, going};
 use crate::taking::take_out;
 use crate::waits::Waits;
 use connection_plan::ServiceContract;
@@ -53,9 +53,9 @@ impl<R: ServiceContract> Connection<R> {
     ghost use Rattle.connection_strand.specs.Following.{IsNew, Follows, is_client};
     ghost use Rattle.connection_strand.specs.Kept.{kept, fresh, waits_of, wants_offer};
     ghost use Rattle.connection_strand.specs.Acts.{sockets_with, count_with};
-    ghost use Rattle.connection_strand.specs.Costs.{Falls, FallsBy};
+    ghost use Rattle.connection_strand.specs.Costs.{Falls};
     ghost use Rattle.connection_strand.specs.Shown.{HasPieceAt, offered_as};
-    ghost use Rattle.connection_strand.specs.Turns.{MayTakeAnswer, TakesAnswer, MayGiveAnswer, GivesAnswer};
+    ghost use Rattle.connection_strand.specs.Turns.{MayTakeAnswer, TakesAnswer};
 
     /// A connection that begins, with or without a client; takes no memory.
     fn new(alloc: Global, site: &R::Site, is_open: bool) -> Connection<R>
@@ -95,37 +95,13 @@ impl<R: ServiceContract> Connection<R> {
             (stepped plan now.0 (Did (Began now.0 start)) (unborn_state plan)) self.new turn.new Done) }
     {
         match start {
-            Start::Client(_) => {
-                self.begin_timer(turn, site, now, Timer::Header)?;
-                Ok(true)
-            }
+            Start::Client(_) => { going(self.begin_timer(turn, site, now, Timer::Header), true) }
             Start::Job(_, premature, job) => {
                 let begun = R::begin_job(alloc, site, now, premature, job);
                 self.client.stage = Stage::Busy;
                 self.take_run(turn, site, now, begun)
             }
         }
-    }
-
-    /// The acts of the first turn of a new connection.
-    fn start(
-        &mut self,
-        alloc: Global,
-        site: &R::Site,
-        now: Ms,
-        start: Start<R::Job>,
-    ) -> Result<Acts<R::Job>, AllocError>
-        requires { IsNew (R.serving site.now).default_times (is_client start) self.old }
-        ensures { let view = view_of (R.meaning site.now) (R.serving site.now) in IfOk result (λ acts.
-            Follows view self.new (Did (Began now.0 start) ∷ [])
-            × (acts.items ≡ (connection_behavior (service view)).acts (Did (Began now.0 start) ∷ []))) }
-    {
-        let mut turn = Turn {
-            acts: VecDeque::new(alloc),
-            is_offered: false,
-        };
-        self.take_first_turn(&mut turn, alloc, site, now, start)?;
-        Ok(turn.acts)
     }
 
     /// The piece that is offered next at the socket.
@@ -172,7 +148,7 @@ impl<R: ServiceContract> Connection<R> {
         }
     }
 
-    /// Takes the turn that begins with the answer to its question.
+    /// Takes the turn that begins with the answer to its question: the run is given it, and what is there is settled.
     fn take_answer(
         &mut self,
         turn: &mut Turn<R::Job>,
@@ -190,34 +166,14 @@ impl<R: ServiceContract> Connection<R> {
         match self.take_in(&answer) {
             Ok(()) => {
                 self.keeping = None;
-                self.give_answer(turn, alloc, site, now, answer)
+                let went = self.answered(turn, alloc, site, now, answer);
+                self.settle_on(turn, alloc, site, now, went)
             }
             Err(error) => {
                 drop(answer);
                 Err(error)
             }
         }
-    }
-
-    /// The run is given the answer, and what is there is settled.
-    fn give_answer(
-        &mut self,
-        turn: &mut Turn<R::Job>,
-        alloc: Global,
-        site: &R::Site,
-        now: Ms,
-        answer: Answer,
-    ) -> Result<(), AllocError>
-        requires { let view = view_of (R.meaning site.now) (R.serving site.now) in MayGiveAnswer view now.0 answer self.old turn.old }
-        ensures moves { let view = view_of (R.meaning site.now) (R.serving site.now) in IfOk result (λ done.
-            GivesAnswer view now.0 answer self.old turn.old self.new turn.new) }
-        ensures falls { IfOk result (λ done. FallsBy R.left R.bound 3 self.old turn.old self.new turn.new) }
-    {
-        let goes_on = self.answered(turn, alloc, site, now, answer)?;
-        if !goes_on {
-            return Ok(());
-        }
-        self.settle_all(turn, alloc, site, now)
     }
 
     /// Whether an offer of the client is queued or goes on as the turn begins.
@@ -321,8 +277,12 @@ impl<R: ServiceContract> StrandContract for Connection<R> {
             × (r.1.items ≡ (connection_behavior (service view)).acts (Did (Began now.0 start) ∷ []))) }
     {
         let mut connection = Connection::new(alloc, site, is_client(&start));
-        let acts = connection.start(alloc, site, now, start);
-        paired(connection, acts)
+        let mut turn = Turn {
+            acts: VecDeque::new(alloc),
+            is_offered: false,
+        };
+        let went = connection.take_first_turn(&mut turn, alloc, site, now, start);
+        paired(connection, acts_of(turn, ended(went)))
     }
 
     fn given(
@@ -338,8 +298,8 @@ impl<R: ServiceContract> StrandContract for Connection<R> {
         };
         self.keeping = None;
         self.is_taking = takes(&seen);
-        self.see(&mut turn, alloc, site, now, seen)?;
-        Ok(turn.acts)
+        let done = self.see(&mut turn, alloc, site, now, seen);
+        acts_of(turn, done)
     }
 
     fn answer(
@@ -353,8 +313,8 @@ impl<R: ServiceContract> StrandContract for Connection<R> {
             acts: VecDeque::new(alloc),
             is_offered: self.is_still_offered(),
         };
-        self.take_answer(&mut turn, alloc, site, now, answer)?;
-        Ok(turn.acts)
+        let done = self.take_answer(&mut turn, alloc, site, now, answer);
+        acts_of(turn, done)
     }
 
     fn queued(&self, site: &R::Site, place: Place) -> &[u8] {

@@ -79,7 +79,11 @@ impl<R: ServiceContract> Connection<R> {
     {
         match part {
             RunAct::Act(act) => self.take_act(turn, act),
-            RunAct::Say(word) => going(self.hear_word(turn, site, now, &word), true),
+            RunAct::Say(word) => {
+                let heard = self.hear_word(turn, site, now, &word);
+                drop(word);
+                going(heard, true)
+            }
         }
     }
 

@@ -1,7 +1,7 @@
 //! Timers of a connection begin and end.
 
 use crate::client::{Timer, later};
-use crate::state::{Connection, Turn, put};
+use crate::state::{Connection, Turn, put, put_if};
 use connection_plan::ServiceContract;
 use resty_base::Ms;
 use std::alloc::AllocError;
@@ -47,10 +47,8 @@ impl<R: ServiceContract> Connection<R> {
         ensures reply { self.new.client.reply ≡ self.old.client.reply }
         ensures costs { IfOk result (λ done. Spends R.left R.bound 0 self.old turn.old self.new turn.new) }
     {
-        if !self.client.is_armed(timer) {
-            return Ok(());
-        }
+        let is_armed = self.client.is_armed(timer);
         self.client.set_armed(timer, false);
-        put(&mut turn.acts, Act::Cancel(timer.number()))
+        put_if(is_armed, &mut turn.acts, Act::Cancel(timer.number()))
     }
 }

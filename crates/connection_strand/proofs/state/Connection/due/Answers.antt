@@ -4,7 +4,7 @@ use Rattle.strand_plans.specs.Moves.{Done}
 use Rattle.connection_strand.specs.Views.{view_of}
 use Rattle.connection_strand.specs.Kept.{Kept}
 use Rattle.connection_strand.specs.Shown.{Shown}
-use Rattle.connection_strand.proofs.Ends.{ok-map, went-came}
+use Rattle.connection_strand.proofs.Ends.{ok-map, of-ok, went-came}
 use Rattle.connection_strand.proofs.Showing.{is-unasked, shown-due, shown-waited, shown-sent, two-up}
 use Rattle.connection_strand.proofs.Falling.{due-armed, waited-falls, sent-falls, told-falls}
 use Rattle.connection_strand.proofs.state.Connection.due.Goals as goal
@@ -94,14 +94,16 @@ to_run-requires g c =
     (c.requires.0, Done, shown-due v (met.meets site) (met.apart site) now c.args.number (two-up c.args.number c.if-number-eq0.false c.if-number-eq1.false) c.requires.0 c.args.self.now c.args.turn.now c.requires.1)
 
 pub returns-clause-moves : goal.returns-clause-moves
-returns-clause-moves g c = λ did h.
+returns-clause-moves g c =
     let site = c.args.site.now in
     let v = view_of (g.R.RunContract.meaning site) (g.R.ServiceContract.serving site) in
     let met = g.met.R.RunContract in
     let now = c.args.now.0 in
-    went-came v c.in_ok-to_run.field-0 did c.to_run.new.self c.to_run.new.turn (c.in_ok-to_run.ensures.moves did Done
-    (shown-due v (met.meets site) (met.apart site) now c.args.number (two-up c.args.number c.if-number-eq0.false c.if-number-eq1.false) did c.args.self.now c.args.turn.now h))
+    ok-map c.ended.result _ _ (λ done e. λ did h.
+    went-came v e.0 did c.to_run.new.self c.to_run.new.turn (of-ok c.to_run.result e.0 _ e.1 c.to_run.ensures.moves did Done
+    (shown-due v (met.meets site) (met.apart site) now c.args.number (two-up c.args.number c.if-number-eq0.false c.if-number-eq1.false) did c.args.self.now c.args.turn.now h))) c.ended.ensures
 
 pub returns-clause-falls : goal.returns-clause-falls
 returns-clause-falls g c =
-    told-falls g.R.RunContract.left g.R.ServiceContract.bound c.args.self.now c.to_run.new.self c.args.turn.now c.to_run.new.turn (c.in_ok-to_run.ensures.costs refl refl)
+    ok-map c.ended.result _ _ (λ done e.
+    told-falls g.R.RunContract.left g.R.ServiceContract.bound c.args.self.now c.to_run.new.self c.args.turn.now c.to_run.new.turn (of-ok c.to_run.result e.0 _ e.1 (c.to_run.ensures.costs refl refl))) c.ended.ensures

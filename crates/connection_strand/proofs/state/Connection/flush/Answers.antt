@@ -1,14 +1,17 @@
-use Rattle.std.proofs.Common.{◌≡◌, true, false, not, ◌||◌, sym, ap, ◌∙◌}
+use Rattle.std.proofs.Common.{◌≡◌, Bool, true, false, not, ◌||◌, sym, ap, ◌∙◌, subst}
 use Rattle.connection_plan.specs.Clients.{closes_after}
 use Rattle.connection_strand.specs.Views.{view_of}
 use Rattle.connection_strand.specs.Kept.{kept}
-use Rattle.connection_strand.proofs.Ends.{ok-map, done-came}
+use Rattle.connection_strand.specs.Costs.{Settles}
+use Rattle.connection_strand.specs.Standing.{Went}
+use Rattle.connection_strand.proofs.Costing.{costs-more}
+use Rattle.connection_strand.proofs.Ends.{ok-map, of-ok, done-came}
 use Rattle.connection_strand.proofs.Settled.{flush-sends, flush-ends, flush-goes-on}
 use Rattle.connection_strand.proofs.state.Connection.flush.Goals.{then-not-self-via-then-not-self, then-not-self-via-else-not-self+then-closes_after}
 use Rattle.connection_strand.proofs.state.Connection.flush.Goals as goal
 
 pub returns-then-not-self-clause-moves : goal.returns-then-not-self-clause-moves
-returns-then-not-self-clause-moves g c = λ st free did m h.
+returns-then-not-self-clause-moves g c =
     let site = c.args.site.now in
     let v = view_of (g.R.RunContract.meaning site) (g.R.ServiceContract.serving site) in
     let met = g.met.R.RunContract in
@@ -17,9 +20,15 @@ returns-then-not-self-clause-moves g c = λ st free did m h.
       | then-not-self-via-then-not-self w ↦ ap (λ o. not o || closes_after k.reply) w.if-not-self.true
       | then-not-self-via-else-not-self+then-closes_after w ↦ ap (λ o. not o || closes_after k.reply) w.if-not-self.false ∙ sym w.closes_after.ensures ∙ w.if-closes_after.true
     ] in
-    c.in_ok-finish.ensures.moves st did
+    ok-map c.going.result _ _ (λ on e. λ st free did m h. subst (λ (o : Bool). Went v o did c.finish.new.self c.finish.new.turn m) (sym e.0)
+    (of-ok c.finish.result tt _ e.1 c.finish.ensures.moves st did
     (flush-ends v (met.meets site) (met.apart site) c.args.now.0 m _ did c.args.self.now c.args.turn.now
-    (sym c.if-not-is_all_taken.ensures) ends h)
+    (sym c.if-not-is_all_taken.ensures) ends h))) c.going.ensures
+
+pub returns-then-not-self-clause-costs : goal.returns-then-not-self-clause-costs
+returns-then-not-self-clause-costs g c = ok-map c.going.result _ _ (λ on e.
+    subst (λ (o : Bool). Settles g.R.RunContract.left g.R.ServiceContract.bound o c.args.self.now c.args.turn.now c.finish.new.self c.finish.new.turn) (sym e.0)
+    (costs-more g.R.RunContract.left g.R.ServiceContract.bound c.args.self.now c.finish.new.self c.args.turn.now c.finish.new.turn (of-ok c.finish.result tt _ e.1 c.finish.ensures.costs))) c.going.ensures
 
 pub returns-clause-moves : goal.returns-clause-moves
 returns-clause-moves g c =

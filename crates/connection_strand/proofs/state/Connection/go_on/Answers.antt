@@ -1,54 +1,33 @@
-use Rattle.std.proofs.Common.{subst}
 use Rattle.connection_plan.specs.Turns.{settle}
-use Rattle.connection_strand.specs.Standing.{Went}
 use Rattle.connection_strand.specs.Views.{view_of, service}
-use Rattle.connection_strand.proofs.Ends.{ok-map}
-use Rattle.connection_strand.proofs.Falling.{told-falls, told-settled}
+use Rattle.connection_strand.proofs.Ends.{ok-map, ok-both, of-ok}
+use Rattle.connection_strand.proofs.Falling.{told-settled}
+use Rattle.connection_strand.proofs.Loops.{within-on}
 use Rattle.connection_strand.proofs.state.Connection.go_on.Goals as goal
 
-pub to_run-requires : goal.to_run-requires
-to_run-requires g c =
+pub to_run-went-requires : goal.to_run-went-requires
+to_run-went-requires g c =
     let site = c.args.site.now in
     let v = view_of (g.R.RunContract.meaning site) (g.R.ServiceContract.serving site) in
-    let met = g.met.R.RunContract in
-    let now = c.args.now.0 in
-    (c.requires.0, settle (service v) now, c.requires.1)
+    (c.requires.0, settle (service v) c.args.now.0, c.requires.1)
 
-pub settle_all-requires : goal.settle_all-requires
-settle_all-requires g c =
+pub settle_on-requires : goal.settle_on-requires
+settle_on-requires g c =
     let site = c.args.site.now in
     let v = view_of (g.R.RunContract.meaning site) (g.R.ServiceContract.serving site) in
-    let met = g.met.R.RunContract in
     let now = c.args.now.0 in
-    let t = subst (λ on. Went v on c.requires.0 c.to_run.new.self c.to_run.new.turn (settle (service v) now)) c.if-not-goes_on.false
-    (c.in_ok-goes_on.ensures.moves c.requires.0 (settle (service v) now) c.requires.1) in
-    (t.0, (t.1.ledger, t.1.inner, t.1.within))
-
-pub returns-then-not-goes_on-clause-moves : goal.returns-then-not-goes_on-clause-moves
-returns-then-not-goes_on-clause-moves g c = λ did h.
-    let site = c.args.site.now in
-    let v = view_of (g.R.RunContract.meaning site) (g.R.ServiceContract.serving site) in
-    let met = g.met.R.RunContract in
-    let now = c.args.now.0 in
-    subst (λ on. Went v on did c.to_run.new.self c.to_run.new.turn (settle (service v) now)) c.if-not-goes_on.true
-    (c.in_ok-goes_on.ensures.moves did (settle (service v) now) h)
-
-pub returns-then-not-goes_on-clause-falls : goal.returns-then-not-goes_on-clause-falls
-returns-then-not-goes_on-clause-falls g c other own =
-    told-falls g.R.RunContract.left g.R.ServiceContract.bound c.args.self.now c.to_run.new.self c.args.turn.now c.to_run.new.turn (c.in_ok-goes_on.ensures.costs other own)
+    ok-map c.to_run-went.result _ _ (λ on tells. within-on v now on c.requires.0 c.to_run-went.new.self c.to_run-went.new.turn (settle (service v) now)
+    (tells c.requires.0 (settle (service v) now) c.requires.1)) c.to_run-went.ensures.moves
 
 pub returns-clause-moves : goal.returns-clause-moves
 returns-clause-moves g c =
     let site = c.args.site.now in
     let v = view_of (g.R.RunContract.meaning site) (g.R.ServiceContract.serving site) in
-    let met = g.met.R.RunContract in
     let now = c.args.now.0 in
-    ok-map c.settle_all.result _ _ (λ done ends. λ did h.
-    let t = subst (λ on. Went v on did c.to_run.new.self c.to_run.new.turn (settle (service v) now)) c.if-not-goes_on.false
-    (c.in_ok-goes_on.ensures.moves did (settle (service v) now) h) in
-    ends t.0 did t.1) c.settle_all.ensures.moves
+    ok-map c.settle_on.result _ _ (λ done s. λ did h. s.2 did (of-ok c.to_run-went.result s.0 _ s.1 c.to_run-went.ensures.moves did (settle (service v) now) h)) c.settle_on.ensures.moves
 
 pub returns-clause-falls : goal.returns-clause-falls
 returns-clause-falls g c other own =
-    ok-map c.settle_all.result _ _ (λ done costs.
-    told-settled g.R.RunContract.left g.R.ServiceContract.bound c.args.self.now c.to_run.new.self c.settle_all.new.self c.args.turn.now c.to_run.new.turn c.settle_all.new.turn (c.in_ok-goes_on.ensures.costs other own) costs) c.settle_all.ensures.costs
+    ok-both c.settle_on.result _ _ _ (λ done s costs.
+    told-settled g.R.RunContract.left g.R.ServiceContract.bound c.args.self.now c.to_run-went.new.self c.settle_on.new.self c.args.turn.now c.to_run-went.new.turn c.settle_on.new.turn
+    (of-ok c.to_run-went.result s.0 _ s.1 (c.to_run-went.ensures.costs other own)) costs) c.settle_on.ensures.moves c.settle_on.ensures.costs

@@ -1,25 +1,39 @@
-use Rattle.std.proofs.Common.{true, refl}
+use Rattle.std.proofs.Common.{Bool, true, false, refl, sym, subst, arith}
 use Rattle.client_line.specs.declared.requests.LineOut.TheVariants as out
+use Rattle.client_line.specs.Lines.{held_in}
+use Rattle.strand_plans.specs.Moves.{Done}
+use Rattle.connection_strand.specs.Kept.{kept, stage_waiting, timer_of}
 use Rattle.connection_strand.specs.Views.{view_of}
-use Rattle.connection_strand.specs.Standing.{plain}
-use Rattle.connection_strand.proofs.Ends.{done-came}
-use Rattle.connection_strand.proofs.Costing.{costs-more, ends-within, settles-nothing}
-use Rattle.connection_strand.proofs.Hearing.{hears-end, hears-waiting, hears-nothing}
+use Rattle.connection_strand.specs.Costs.{Heard}
+use Rattle.connection_strand.specs.Standing.{plain, Went}
+use Rattle.connection_strand.proofs.Ends.{ok-map, of-ok, done-came}
+use Rattle.connection_strand.proofs.Costing.{costs-more, ends-within, settles-nothing, spends-after, spends-client}
+use Rattle.connection_strand.proofs.Hearing.{hears-end, hears-waiting, hears-nothing, waits-so}
 use Rattle.connection_strand.proofs.state.Connection.hear_no_more.Goals as goal
 
-pub returns-in_ok-finish-clause-moves : goal.returns-in_ok-finish-clause-moves
-returns-in_ok-finish-clause-moves g c = λ st free did m h.
+pub returns-then-self-clause-moves : goal.returns-then-self-clause-moves
+returns-then-self-clause-moves g c =
     let site = c.args.site.now in
     let v = view_of (g.R.RunContract.meaning site) (g.R.ServiceContract.serving site) in
-    c.in_ok-finish.ensures.moves st did
-    (hears-end v c.args.now.0 c.args.anew m out.Waiting (plain st) did c.args.self.now c.args.turn.now refl c.if-self.true h)
+    ok-map c.going.result _ _ (λ on e. λ st free did m h. subst (λ (o : Bool). Went v o did c.finish.new.self c.finish.new.turn m) (sym e.0)
+    (of-ok c.finish.result tt _ e.1 c.finish.ensures.moves st did
+    (hears-end v c.args.now.0 c.args.anew m out.Waiting (plain st) did c.args.self.now c.args.turn.now refl c.if-self.true h))) c.going.ensures
 
-pub returns-in_ok-wait-clause-moves : goal.returns-in_ok-wait-clause-moves
-returns-in_ok-wait-clause-moves g c = λ st free did m h.
+pub returns-then-anew-clause-moves : goal.returns-then-anew-clause-moves
+returns-then-anew-clause-moves g c =
     let site = c.args.site.now in
     let v = view_of (g.R.RunContract.meaning site) (g.R.ServiceContract.serving site) in
-    c.in_ok-wait.ensures.moves st free did m
-    (hears-waiting v c.args.now.0 c.args.anew true m out.Waiting (plain st) did c.args.self.now c.args.turn.now refl c.if-self.false c.if-anew.true h)
+    let now = c.args.now.0 in
+    let old = c.args.self.now in
+    let k = kept old.client in
+    let held = held_in k.came.at k.came.held in
+    let to = stage_waiting held in
+    ok-map c.going-then-anew.result _ _ (λ on e. λ st free did m h. subst (λ (o : Bool). Went v o did c.begin_timer.new.self c.begin_timer.new.turn m) (sym e.0)
+    (done-came v to did c.begin_timer.new.self c.begin_timer.new.turn
+    (of-ok c.begin_timer.result tt _ e.1 c.begin_timer.ensures.moves (plain to) did Done
+    (waits-so v now st did old _ c.args.turn.now held (timer_of c.wait-timer.result) refl free (record { run = refl; waits = refl; sockets = refl; count = refl; keeping = refl; taking = refl })
+    c.wait-timer.ensures.stage c.wait-timer.ensures.timer
+    (hears-waiting v now c.args.anew true m out.Waiting (plain st) did old c.args.turn.now refl c.if-self.false c.if-anew.true h))))) c.going-then-anew.ensures
 
 pub returns-else-anew-clause-moves : goal.returns-else-anew-clause-moves
 returns-else-anew-clause-moves g c = λ st free did m h.
@@ -28,13 +42,26 @@ returns-else-anew-clause-moves g c = λ st free did m h.
     done-came v st did c.args.self.now c.args.turn.now
     (hears-nothing v c.args.now.0 c.args.anew m out.Waiting (plain st) did c.args.self.now c.args.turn.now refl c.if-self.false c.if-anew.false h)
 
-pub returns-in_ok-finish-clause-costs : goal.returns-in_ok-finish-clause-costs
-returns-in_ok-finish-clause-costs g c =
-    costs-more g.R.RunContract.left g.R.ServiceContract.bound c.args.self.now c.finish.new.self c.args.turn.now c.finish.new.turn c.in_ok-finish.ensures.costs
+pub returns-then-self-clause-costs : goal.returns-then-self-clause-costs
+returns-then-self-clause-costs g c =
+    ok-map c.going.result _ _ (λ on e.
+    subst (λ (o : Bool). Heard g.R.RunContract.left g.R.ServiceContract.bound out.Waiting o c.args.self.now c.args.turn.now c.finish.new.self c.finish.new.turn) (sym e.0)
+    (costs-more g.R.RunContract.left g.R.ServiceContract.bound c.args.self.now c.finish.new.self c.args.turn.now c.finish.new.turn (of-ok c.finish.result tt _ e.1 c.finish.ensures.costs))) c.going.ensures
 
-pub returns-in_ok-wait-clause-costs : goal.returns-in_ok-wait-clause-costs
-returns-in_ok-wait-clause-costs g c =
-    ends-within g.R.RunContract.left g.R.ServiceContract.bound 5 c.args.self.now c.wait.new.self c.args.turn.now c.wait.new.turn c.in_ok-wait.ensures.costs
+pub returns-then-anew-clause-costs : goal.returns-then-anew-clause-costs
+returns-then-anew-clause-costs g c =
+    let left = g.R.RunContract.left in
+    let bound = g.R.ServiceContract.bound in
+    let old = c.args.self.now in
+    let turn = c.args.turn.now in
+    let k = kept old.client in
+    let waiting = record old { client = c.wait-timer.new.self } in
+    ok-map c.going-then-anew.result _ _ (λ on e.
+    subst (λ (o : Bool). Heard left bound out.Waiting o old turn c.begin_timer.new.self c.begin_timer.new.turn) (sym e.0)
+    (ends-within left bound 5 old c.begin_timer.new.self turn c.begin_timer.new.turn
+    (spends-after left bound 0 5 old waiting c.begin_timer.new.self turn turn c.begin_timer.new.turn
+    (spends-client left bound 0 old waiting turn turn (record k { stage = stage_waiting (held_in k.came.at k.came.held) }) c.wait-timer.ensures.stage refl refl refl (omega arith))
+    (of-ok c.begin_timer.result tt _ e.1 c.begin_timer.ensures.costs)))) c.going-then-anew.ensures
 
 pub returns-else-anew-clause-costs : goal.returns-else-anew-clause-costs
 returns-else-anew-clause-costs g c = settles-nothing g.R.RunContract.left g.R.ServiceContract.bound c.args.self.now c.args.turn.now

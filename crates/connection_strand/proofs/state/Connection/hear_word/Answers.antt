@@ -1,12 +1,14 @@
-use Rattle.std.proofs.Common.{◌+◌, ◌*◌, ◌∷◌, false, length, refl, sym, ap, subst, arith}
+use Rattle.std.proofs.Common.{◌+◌, ◌*◌, ◌∷◌, None, false, length, refl, sym, ap, subst, arith}
 use Rattle.run_contract.specs.declared.turns.Said.TheVariants as said
 use Rattle.run_contract.specs.declared.turns.RunAct.TheVariants as made
 use Rattle.run_contract.specs.Deeds.{Say}
 use Rattle.connection_plan.specs.Clients.{begun, with_times, Whole}
+use Rattle.connection_plan.specs.Clients as stage
 use Rattle.connection_plan.specs.Timers as timer
-use Rattle.connection_plan.specs.Turns.{send, end_timer}
+use Rattle.connection_plan.specs.Turns.{send, end_timer, change}
 use Rattle.connection_strand.specs.Views.{view_of, service}
 use Rattle.connection_strand.specs.declared.client.Reply.TheVariants as replies
+use Rattle.connection_strand.specs.declared.client.Stage.TheVariants as code
 use Rattle.connection_strand.specs.Costs.{unit, units, client_left}
 use Rattle.connection_strand.specs.Kept.{kept}
 use Rattle.connection_strand.specs.Kept as keeps
@@ -15,7 +17,7 @@ use Rattle.connection_strand.specs.Turns.{HearsWord}
 use Rattle.connection_strand.proofs.Costing.{spends-nothing}
 use Rattle.connection_strand.proofs.Ends.{ok-map}
 use Rattle.connection_strand.proofs.Paying.{unit-holds, unit-some, spends-more, spends-same, begins-reply}
-use Rattle.connection_strand.proofs.Speaking.{changes, said-so}
+use Rattle.connection_strand.proofs.Speaking.{changes, said-so, flushes}
 use Rattle.connection_strand.proofs.state.Connection.hear_word.Goals as goal
 
 pub returns-in-Send-clause-moves : goal.returns-in-Send-clause-moves
@@ -73,7 +75,12 @@ pub returns-in-Over-clause-moves : goal.returns-in-Over-clause-moves
 returns-in-Over-clause-moves g c =
     let site = c.args.site.now in
     let v = view_of (g.R.RunContract.meaning site) (g.R.ServiceContract.serving site) in
-    ok-map c.end_run.result _ _ (λ done hears. subst (λ w. HearsWord v c.args.now.0 w c.args.self.now c.args.turn.now c.end_run.new.self c.end_run.new.turn) (sym c.in-Over.is) hears) c.end_run.ensures.moves
+    let met = g.met.R.RunContract in
+    let ended = c.end_timer-body.new.self in
+    let new = record ended { client = record ended.client { stage = code.Flush }; run = None } in
+    ok-map c.end_timer-body.result _ _ (λ done ends. subst (λ w. HearsWord v c.args.now.0 w c.args.self.now c.args.turn.now new c.end_timer-body.new.turn) (sym c.in-Over.is) (λ st ds a rest did m h.
+    flushes v (met.meets site) (met.apart site) st ds a rest did ended new c.end_timer-body.new.turn m refl refl refl refl refl
+    (ends (taking st (Say said.Over ∷ ds) a (made.Say said.Over ∷ rest)) did (change (λ k. record k { stage = stage.Flush }) m) h))) c.end_timer-body.ensures.moves
 
 pub returns-in-Send-clause-costs : goal.returns-in-Send-clause-costs
 returns-in-Send-clause-costs g c =

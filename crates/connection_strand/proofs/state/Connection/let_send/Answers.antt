@@ -1,16 +1,17 @@
 use Rattle.std.proofs.Common.{refl, ap, inl, inr, false}
 use Rattle.connection_strand.specs.Kept.{reply_of}
+use Rattle.connection_strand.proofs.Ends.{ok-map}
 use Rattle.connection_strand.proofs.Speaking.{lets, lets-reply, lets-begun, lets-waited, begun-is, whole-is}
 use Rattle.connection_strand.specs.Views.{view_of}
 use Rattle.connection_strand.proofs.state.Connection.let_send.Goals as goal
 
-pub returns-in_ok-send-in-Unsent-clause-moves : goal.returns-in_ok-send-in-Unsent-clause-moves
-returns-in_ok-send-in-Unsent-clause-moves g c = λ e did m h.
+pub returns-then-self-2-clause-moves : goal.returns-then-self-2-clause-moves
+returns-then-self-2-clause-moves g c =
     let site = c.args.site.now in
     let v = view_of (g.R.RunContract.meaning site) (g.R.ServiceContract.serving site) in
     let met = g.met.R.RunContract in
-    c.in_ok-send-in-Unsent.ensures.moves e did m (lets-reply v (met.meets site) (met.apart site) c.continue_reply.result
-    e did c.args.self.now _ c.args.turn.now m c.continue_reply.ensures (ap reply_of c.in-Unsent.is) c.if-self.false c.if-self-2.true (record { run = refl; waits = refl; sockets = refl; count = refl; keeping = refl; taking = refl }) refl h)
+    ok-map c.send-sent.result _ _ (λ done sends. λ e did m h. sends e did m (lets-reply v (met.meets site) (met.apart site) c.continue_reply-reply.result
+    e did c.args.self.now _ c.args.turn.now m c.continue_reply-reply.ensures (ap reply_of c.in-Unsent.is) c.if-self.false c.if-self-2.true (record { run = refl; waits = refl; sockets = refl; count = refl; keeping = refl; taking = refl }) refl h)) c.send-sent.ensures.moves
 
 pub returns-else-self-2-clause-moves : goal.returns-else-self-2-clause-moves
 returns-else-self-2-clause-moves g c = λ e did m h.

@@ -27,8 +27,8 @@ returns-in-Sock-clause-moves g c =
 pub returns-in-Sock-clause-falls : goal.returns-in-Sock-clause-falls
 returns-in-Sock-clause-falls g c own = c.sock.ensures.falls (sym (own-sock c.in-Sock.k c.in-Sock.shown) ∙ sym (ap is_own_turn (c.sight_of.ensures ∙ ap seen_of c.in-Sock.is)) ∙ own)
 
-pub take_bytes-requires : goal.take_bytes-requires
-take_bytes-requires g c =
+pub came-requires : goal.came-requires
+came-requires g c =
     let site = c.args.site.now in
     let v = view_of (g.R.RunContract.meaning site) (g.R.ServiceContract.serving site) in
     let met = g.met.R.RunContract in
@@ -43,10 +43,10 @@ returns-in-Bytes-clause-moves g c =
     let v = view_of (g.R.RunContract.meaning site) (g.R.ServiceContract.serving site) in
     let met = g.met.R.RunContract in
     let now = c.args.now.0 in
-    ok-map c.take_bytes.result _ _ (λ done ends. λ did h.
+    ok-map c.came.result _ _ (λ done ends. λ did h.
     let k = (subst (λ (s : Seen). Shown v now s did c.args.self.now c.args.turn.now) (c.sight_of.ensures ∙ ap seen_of c.in-Bytes.is) h) in
     ends k.inner.client.stage did
-    (shown-bytes v (met.meets site) (met.apart site) now c.in-Bytes.bytes did c.args.self.now c.args.turn.now k)) c.take_bytes.ensures
+    (shown-bytes v (met.meets site) (met.apart site) now c.in-Bytes.bytes did c.args.self.now c.args.turn.now k)) c.came.ensures
 
 pub returns-in-Bytes-clause-falls : goal.returns-in-Bytes-clause-falls
 returns-in-Bytes-clause-falls g c own = absurd (let e : false ≡ true = sym (ap is_own_turn (c.sight_of.ensures ∙ ap seen_of c.in-Bytes.is)) ∙ own in cc)

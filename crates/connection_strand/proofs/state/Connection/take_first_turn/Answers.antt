@@ -1,4 +1,4 @@
-use Rattle.std.proofs.Common.{true, Some, refl, sym, subst}
+use Rattle.std.proofs.Common.{Bool, Some, refl, sym, subst}
 use Rattle.strand_contract.specs.declared.turns.Start.TheVariants as start
 use Rattle.strand_plans.specs.Moves.{Done}
 use Rattle.connection_plan.specs.Clients as stage
@@ -10,19 +10,21 @@ use Rattle.connection_strand.proofs.Ends.{ok-map, of-ok}
 use Rattle.connection_strand.proofs.Beginning.{begun, begins-client, begins-job}
 use Rattle.connection_strand.proofs.state.Connection.take_first_turn.Goals as goal
 
-pub returns-in_ok-begin_timer-in-Client : goal.returns-in_ok-begin_timer-in-Client
-returns-in_ok-begin_timer-in-Client g c =
+pub returns-in-Client : goal.returns-in-Client
+returns-in-Client g c =
     let site = c.args.site.now in
     let v = view_of (g.R.RunContract.meaning site) (g.R.ServiceContract.serving site) in
     let met = g.met.R.RunContract in
     let now = c.args.now.0 in
     let to = begun v now (start.Client c.in-Client.field-0) in
     let new = subst (λ begin. IsNew v.serving.default_times (is_client begin) c.args.self.now) c.in-Client.is c.requires.connection in
-    subst (λ begin. Went v true (begun v now begin) c.begin_timer.new.self c.begin_timer.new.turn Done) (sym c.in-Client.is) (
+    ok-map c.going.result _ _ (λ on e.
+    subst (λ begin. Went v on (begun v now begin) c.begin_timer.new.self c.begin_timer.new.turn Done) (sym c.in-Client.is)
+    (subst (λ (o : Bool). Went v o to c.begin_timer.new.self c.begin_timer.new.turn Done) (sym e.0) (
       stage.Head,
-      c.in_ok-begin_timer-in-Client.ensures.moves (plain stage.Head) to Done
+      of-ok c.begin_timer.result tt _ e.1 c.begin_timer.ensures.moves (plain stage.Head) to Done
           (begins-client v now c.in-Client.field-0 c.args.self.now c.args.turn.now new.client new.sockets new.count new.keeping new.taking c.requires.acts c.requires.offered),
-    )
+    ))) c.going.ensures
 
 pub returns-in-Job : goal.returns-in-Job
 returns-in-Job g c =

@@ -29,10 +29,10 @@ returns-in-Say-clause-moves g c =
     let site = c.args.site.now in
     let v = view_of (g.R.RunContract.meaning site) (g.R.ServiceContract.serving site) in
     ok-map c.going.result _ _ (λ on e.
-    subst (λ (o : Bool). TakesPart v c.args.now.0 o c.args.part c.args.self.now c.args.turn.now c.hear_word.new.self c.hear_word.new.turn) (sym e.0)
-    (subst (λ (x : RunAct g.row.R-Job.Denot). TakesPart v c.args.now.0 true x c.args.self.now c.args.turn.now c.hear_word.new.self c.hear_word.new.turn) (sym c.in-Say.is)
-    (λ rest did m h. takes-word v c.args.now.0 c.in-Say.word rest did c.args.self.now c.hear_word.new.self c.args.turn.now c.hear_word.new.turn m
-    (of-ok c.hear_word.result tt _ e.1 c.hear_word.ensures.moves) h))) c.going.ensures
+    subst (λ (o : Bool). TakesPart v c.args.now.0 o c.args.part c.args.self.now c.args.turn.now c.hear_word-heard.new.self c.hear_word-heard.new.turn) (sym e.0)
+    (subst (λ (x : RunAct g.row.R-Job.Denot). TakesPart v c.args.now.0 true x c.args.self.now c.args.turn.now c.hear_word-heard.new.self c.hear_word-heard.new.turn) (sym c.in-Say.is)
+    (λ rest did m h. takes-word v c.args.now.0 c.in-Say.word rest did c.args.self.now c.hear_word-heard.new.self c.args.turn.now c.hear_word-heard.new.turn m
+    (of-ok c.hear_word-heard.result tt _ e.1 c.hear_word-heard.ensures.moves) h))) c.going.ensures
 
 pub returns-in-Say-clause-costs : goal.returns-in-Say-clause-costs
-returns-in-Say-clause-costs g c = ok-map c.going.result _ _ (λ on e. of-ok c.hear_word.result tt _ e.1 c.hear_word.ensures.costs) c.going.ensures
+returns-in-Say-clause-costs g c = ok-map c.going.result _ _ (λ on e. of-ok c.hear_word-heard.result tt _ e.1 c.hear_word-heard.ensures.costs) c.going.ensures
