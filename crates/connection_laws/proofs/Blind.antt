@@ -24,7 +24,7 @@ use Rattle.run_contract.specs.Runs.{RunPlan}
 use Rattle.run_contract.specs.Alike.{own_deadlines}
 use Rattle.run_contract.specs.StoredLaws.{not-below}
 use Rattle.run_contract.specs.Stored.{Stored, stored_plan, stored_turn, stored_answered}
-use Rattle.connection_plan.specs.Examples.{Echo, Fresh, Asked, Reading, Replied, Left, echo_plan, echo_turn, request, to}
+use Rattle.connection_plan.specs.Examples.{Echo, Asked, Reading, echo_plan, echo_turn, request, to}
 use Rattle.connection_plan.specs.Recalls.{recalls_plan}
 use Rattle.connection_laws.specs.Own.{IsLive, SameOwn, SameTurn, MindsItsOwn, but_offers}
 use Rattle.connection_laws.specs.Examples.{NeverLooks, tells_in_a_line, tells_in_a_question}
@@ -40,56 +40,37 @@ own-armed n at (d ∷ ds) h = by (own-armed n at ds h) (nat_lt d.0 2)
     by rest false = ap (λ xs. d ∷ xs) rest
 
 module _ {J : Type 0} (b c : Ledger J) (h : SameOwn b c) where
-  ready-both : (k : ℕ) → SameOwn (with_thread k b) (with_thread k c)
-  ready-both k = record {
-    threads = ap (λ (ts : List ℕ). added_if (not (has_number k ts)) k ts) h.threads;
-    armed = h.armed;
+  -- with other threads, deadlines and questions, where the run's own are the same
+  others-both : (ks js : List ℕ) (ds es : List (ℕ × ℕ)) (o p : Option (Question J)) → ks ≡ js → own_deadlines ds ≡ own_deadlines es
+      → SameOwn (record b { threads = ks; armed = ds; asked = o }) (record c { threads = js; armed = es; asked = p })
+  others-both ks js ds es o p threads armed = record {
+    threads = threads;
+    armed = armed;
     count = h.count;
     opened = h.opened;
     sockets = λ j l. let e = h.sockets j l in record { sent = e.sent; taken = e.taken; put_off = e.put_off };
   }
 
+  ready-both : (k : ℕ) → SameOwn (with_thread k b) (with_thread k c)
+  ready-both k = others-both _ _ b.armed c.armed b.asked c.asked (ap (λ (ts : List ℕ). added_if (not (has_number k ts)) k ts) h.threads) h.armed
+
   unready-both : (k : ℕ) → SameOwn (without_thread k b) (without_thread k c)
-  unready-both k = record {
-    threads = ap (without k) h.threads;
-    armed = h.armed;
-    count = h.count;
-    opened = h.opened;
-    sockets = λ j l. let e = h.sockets j l in record { sent = e.sent; taken = e.taken; put_off = e.put_off };
-  }
+  unready-both k = others-both _ _ b.armed c.armed b.asked c.asked (ap (without k) h.threads) h.armed
 
   arm-both : (n : ℕ) (at : Ms) → 2 ≤ n → SameOwn (with_deadline n at b) (with_deadline n at c)
   arm-both n at low =
       let high = not-below n low in
       let own : (ds : List (ℕ × ℕ)) → own_deadlines (disarmed n ds ++ (n, at.0) ∷ []) ≡ disarmed n (own_deadlines ds) ++ (n, at.0) ∷ [] =
       λ ds. own-armed n at.0 (disarmed n ds) high ∙ ap (λ (xs : List (ℕ × ℕ)). xs ++ (n, at.0) ∷ []) (own-disarms n ds high) in
-      record {
-        threads = h.threads;
-        armed = own b.armed ∙ ap (λ (xs : List (ℕ × ℕ)). disarmed n xs ++ (n, at.0) ∷ []) h.armed ∙ sym (own c.armed);
-        count = h.count;
-        opened = h.opened;
-        sockets = λ j l. let e = h.sockets j l in record { sent = e.sent; taken = e.taken; put_off = e.put_off };
-      }
+      others-both b.threads c.threads _ _ b.asked c.asked h.threads (own b.armed ∙ ap (λ (xs : List (ℕ × ℕ)). disarmed n xs ++ (n, at.0) ∷ []) h.armed ∙ sym (own c.armed))
 
   cancel-both : (n : ℕ) → 2 ≤ n → SameOwn (without_deadline n b) (without_deadline n c)
   cancel-both n low =
       let high = not-below n low in
-      record {
-        threads = h.threads;
-        armed = own-disarms n b.armed high ∙ ap (disarmed n) h.armed ∙ sym (own-disarms n c.armed high);
-        count = h.count;
-        opened = h.opened;
-        sockets = λ j l. let e = h.sockets j l in record { sent = e.sent; taken = e.taken; put_off = e.put_off };
-      }
+      others-both b.threads c.threads _ _ b.asked c.asked h.threads (own-disarms n b.armed high ∙ ap (disarmed n) h.armed ∙ sym (own-disarms n c.armed high))
 
   ask-both : (o p : Option (Question J)) → SameOwn (record b { asked = o }) (record c { asked = p })
-  ask-both o p = record {
-    threads = h.threads;
-    armed = h.armed;
-    count = h.count;
-    opened = h.opened;
-    sockets = λ j l. let e = h.sockets j l in record { sent = e.sent; taken = e.taken; put_off = e.put_off };
-  }
+  ask-both o p = others-both b.threads c.threads b.armed c.armed o p h.threads h.armed
 
   hang-both : (n : ℕ) → SameOwn (hung_up (place.Sock n) b) (hung_up (place.Sock n) c)
   hang-both n = record {
@@ -233,66 +214,13 @@ stored-never-looks name key otherwise = record {
 }
 
 echo-turns : {J : Type 0} (now : ℕ) (s : RunSeen) (b c : Ledger J) (r : Echo) → echo_turn now s b r ≡ echo_turn now s c r
-echo-turns now s b c Fresh = on s
-  where
-    on : (s : RunSeen) → echo_turn now s b Fresh ≡ echo_turn now s c Fresh
-    on (seen.Run k) = refl
-    on (seen.Due n) = refl
-    on (seen.Body content waited) = refl
-    on (seen.BodyRefused code) = refl
-    on seen.AllTaken = refl
-    on seen.NotYet = refl
-    on seen.ClientEnded = refl
-    on seen.ClientGone = refl
-    on (seen.Sock k x) = refl
-echo-turns now s b c (Asked keep) = on s
-  where
-    on : (s : RunSeen) → echo_turn now s b (Asked keep) ≡ echo_turn now s c (Asked keep)
-    on (seen.Run k) = refl
-    on (seen.Due n) = refl
-    on (seen.Body content waited) = refl
-    on (seen.BodyRefused code) = refl
-    on seen.AllTaken = refl
-    on seen.NotYet = refl
-    on seen.ClientEnded = refl
-    on seen.ClientGone = refl
-    on (seen.Sock k x) = refl
-echo-turns now s b c (Reading keep) = on s
-  where
-    on : (s : RunSeen) → echo_turn now s b (Reading keep) ≡ echo_turn now s c (Reading keep)
-    on (seen.Run k) = refl
-    on (seen.Due n) = refl
-    on (seen.Body content waited) = refl
-    on (seen.BodyRefused code) = refl
-    on seen.AllTaken = refl
-    on seen.NotYet = refl
-    on seen.ClientEnded = refl
-    on seen.ClientGone = refl
-    on (seen.Sock k x) = refl
-echo-turns now s b c Replied = on s
-  where
-    on : (s : RunSeen) → echo_turn now s b Replied ≡ echo_turn now s c Replied
-    on (seen.Run k) = refl
-    on (seen.Due n) = refl
-    on (seen.Body content waited) = refl
-    on (seen.BodyRefused code) = refl
-    on seen.AllTaken = refl
-    on seen.NotYet = refl
-    on seen.ClientEnded = refl
-    on seen.ClientGone = refl
-    on (seen.Sock k x) = refl
-echo-turns now s b c Left = on s
-  where
-    on : (s : RunSeen) → echo_turn now s b Left ≡ echo_turn now s c Left
-    on (seen.Run k) = refl
-    on (seen.Due n) = refl
-    on (seen.Body content waited) = refl
-    on (seen.BodyRefused code) = refl
-    on seen.AllTaken = refl
-    on seen.NotYet = refl
-    on seen.ClientEnded = refl
-    on seen.ClientGone = refl
-    on (seen.Sock k x) = refl
+echo-turns now (seen.Body content waited) b c (Asked keep) = refl
+echo-turns now (seen.Body content waited) b c (Reading keep) = refl
+echo-turns now (seen.BodyRefused code) b c r = refl
+echo-turns now seen.NotYet b c (Asked keep) = refl
+echo-turns now seen.ClientGone b c r = refl
+echo-turns now (seen.Run k) b c r = refl
+echo-turns now s b c r = refl
 
 pub echo-never-looks : {J : Type 0} (reads : Bool) → NeverLooks {J = J} (echo_plan reads)
 echo-never-looks reads = record {

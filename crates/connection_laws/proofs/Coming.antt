@@ -52,7 +52,8 @@ use Rattle.connection_laws.proofs.Leaving.{Left, here_at, left}
 use Rattle.connection_laws.proofs.Places.{Placed, BodyAt, body-kept, settled-placed, fed-body, fed-kept, fed-placed}
 use Rattle.connection_laws.proofs.Owns.{blank-same, run-same, due-same, bytes-same, ended-same, broken-same, dialled-same, refused-same, ready-same, later-same, lost-same, took-same, dial-same, take-same, keep-same, dict-same, timer-same}
 use Rattle.connection_laws.proofs.Saying.{left-of}
-use Rattle.connection_laws.proofs.Going.{starts_job, Counted, LineAt, Wholes, Logged, Origin, Request, Job, Goes, Good, Fine, good-busy, good-alike, Takes, turn-good, LearnsOf, Learns, tell-good, answer-good}
+use Rattle.connection_laws.proofs.Good.{starts_job, LineAt, Wholes, Logged, Origin, Request, Job, Goes, Good, good-busy, good-alike}
+use Rattle.connection_laws.proofs.Going.{Counted, Fine, Takes, turn-good, LearnsOf, Learns, tell-good, answer-good}
 use Rattle.connection_laws.proofs.Replying.{IsIdle, not-busy, idle-at, finish-good, ends-good, begins-good, lose-fine, heard-good, within-so, waits-good, read-good, settle-fine, done-fine}
 
 -- the bytes that an action brings of the client

@@ -27,8 +27,8 @@ use Rattle.connection_plan.proofs.Meets.{meets}
 use Rattle.connection_laws.specs.Own.{SameOwn, MindsItsOwn}
 use Rattle.connection_laws.specs.Alone.{Alone, News, learned, begins_job}
 use Rattle.connection_laws.specs.Replies.{IsUpTo, HaveWholeReplies, HaveOwnReplies, HaveWholeLines, HaveOwnLines, IsJobAlone, lines_by}
-use Rattle.connection_laws.proofs.Leaving.{Left, here_at, left, left-is}
-use Rattle.connection_laws.proofs.Going.{begins_a_job, starts_job, performs-count, up-to-later, learned-later, job-learned-later, LineAt, Own, Whole, OwnLines, WholeLines, Wholes, Logged, Origin, Request, Job, Good, good-idle, good-alike}
+use Rattle.connection_laws.proofs.Leaving.{Left, here_at, left, left-is, performs-count}
+use Rattle.connection_laws.proofs.Good.{begins_a_job, starts_job, up-to-later, learned-later, job-learned-later, LineAt, Own, Whole, OwnLines, WholeLines, Wholes, Logged, Origin, Request, Job, Good, good-idle, good-alike}
 use Rattle.connection_laws.proofs.Coming.{is_first, bytes-come, turned, began-good, step-good}
 
 -- the action with which all began

@@ -79,3 +79,18 @@ module _ {J S : Type 0} where
   left-is (Look go) b s ls = left-is (go b s) b s ls
   left-is (Ask x) b s ls = quietly ls (record b { asked = asked_of x b }) s (asking_if (asked_of x b)) (asking-logs (asked_of x b))
   left-is End b s ls = quietly ls (ended b) s (ending b.opened) (ending-logs J b.opened)
+
+-- no move changes how many sockets there were
+pub performs-count : {J S : Type 0} (m : Move J S) (b : Ledger J) (s : S) → (perform m b s).state.ledger.count ≡ b.count
+performs-count Done b s = refl
+performs-count (move.Ready k m) b s = performs-count m (with_thread k b) s
+performs-count (Unready k m) b s = performs-count m (without_thread k b) s
+performs-count (Send q bytes m) b s = performs-count m (with_offer q (with_sent q bytes b)) s
+performs-count (Arm n at m) b s = performs-count m (with_deadline n at b) s
+performs-count (Cancel n m) b s = performs-count m (without_deadline n b) s
+performs-count (HangUp q m) b s = performs-count m (hung_up q b) s
+performs-count (Log line m) b s = performs-count m b s
+performs-count (Set f m) b s = performs-count m b (f s)
+performs-count (Look go) b s = performs-count (go b s) b s
+performs-count (Ask x) b s = refl
+performs-count End b s = refl

@@ -2,6 +2,8 @@ pub mod Owns
 pub mod Leaving
 pub mod Saying
 pub mod Places
+pub mod Words
+pub mod Good
 pub mod Going
 pub mod Replying
 pub mod Coming
@@ -9,5 +11,7 @@ pub mod Executing
 pub mod Said
 pub mod Blind
 pub mod Hanging
+pub mod Alike
+pub mod Renumbering
 pub mod Numbering
 pub mod Written

@@ -51,8 +51,9 @@ use Rattle.connection_laws.specs.Replies.{IsNews, has_client}
 use Rattle.connection_laws.proofs.Leaving.{Left, here_at, left}
 use Rattle.connection_laws.proofs.Saying.{Says, left-of, IsWaited, wait-leads}
 use Rattle.connection_laws.proofs.Places.{Placed, BodyAt, IsKept, settled-placed, begun-placed, begun-body, waits-placed, asked-body, asked-placed, told-own, told-fault}
-use Rattle.connection_laws.proofs.Owns.{blank-same}
-use Rattle.connection_laws.proofs.Going.{here, up-to-later, Counted, LineAt, Own, Wholes, Logged, OwnLines, whole-owns, whole-logs, Reads, Newest, Origin, Request, Job, Good, Fine, goes-moved, good-idle, good-busy, good-alike, Takes, turn-good, LearnsOf, Learns, tell-good}
+use Rattle.connection_laws.proofs.Owns.{blank-same, same-alike}
+use Rattle.connection_laws.proofs.Good.{here, up-to-later, LineAt, Own, Wholes, Logged, OwnLines, whole-owns, whole-logs, Reads, Newest, Origin, Request, Job, Good, goes-moved, good-idle, good-busy, good-alike}
+use Rattle.connection_laws.proofs.Going.{Counted, Fine, Takes, turn-good, LearnsOf, Learns, tell-good}
 
 -- a stage at which no run goes on
 abbrev pub IsIdle : Stage → Type 0
@@ -350,7 +351,7 @@ module _ {J R : Type 0} (site : Service J R) (now : ℕ) (es : List (LocalAction
         lines = refl;
         there = λ l. l;
         run = refl;
-        like = alike-refl b;
+        like = λ c h. h;
         none = λ g e. same ∙ e;
         newest = λ head target older n. record { reply = n.reply; is = same ∙ n.is };
         says = λ head target older words l g. says head target older words g;
@@ -403,7 +404,7 @@ module _ {J R : Type 0} (site : Service J R) (now : ℕ) (es : List (LocalAction
         lines = refl;
         there = λ l. sym x.there ∙ l;
         run = x.run;
-        like = x.same.alike;
+        like = λ c. same-alike b d c x.same.alike;
         none = λ g e. waited-same s.client.exchanges t.client.exchanges (is_there b) g x.exchanges ∙ e;
         newest = λ head target older n. waited-newest s.client.exchanges t.client.exchanges (is_there b) head target older x.exchanges n;
         says = λ head target older words l g. x.says head target older words (sym x.there ∙ l) g;

@@ -1,6 +1,7 @@
 //! The laws.
 
 ghost use Rattle.std.specs.Prelude.{◌≡◌, ℕ, Bool, true, false, List, [], ◌∷◌, ◌++◌};
+ghost use Rattle.resty_base.specs.declared.names.StrandId.{StrandId};
 ghost use Rattle.resty_base.specs.declared.dictionary.DictAnswer.{DictAnswer};
 ghost use Rattle.resty_base.specs.declared.dictionary.DictCall.TheVariants as dict;
 ghost use Rattle.uri_args.specs.declared.targets.Target.{Target};
@@ -11,6 +12,10 @@ ghost use Rattle.strand_contract.specs.Alone.{was_dropped, todo, IsPrefixOf, IsE
 ghost use Rattle.strand_contract.specs.Laws.{IsQuiet};
 ghost use Rattle.strand_contract.specs.declared.turns.Start.TheVariants as start;
 ghost use Rattle.strand_contract.specs.Actions.{LocalAction, Did, Began, Dict};
+ghost use Rattle.executions.specs.Executions.{GlobalAction};
+ghost use Rattle.executions.specs.Histories.{part};
+ghost use Rattle.executions.specs.Lawful.{IsLawful};
+ghost use Rattle.execution_laws.specs.StrandInputs.{gave};
 ghost use Rattle.strand_plans.specs.Ledgers.{Ledger, left_at};
 ghost use Rattle.strand_contract.specs.declared.turns.Place.TheVariants as place;
 ghost use Rattle.strand_plans.specs.Plans.{state_of};
@@ -30,7 +35,7 @@ ghost use Rattle.connection_laws.specs.Alone.{Beginning, Seen, Given, let_first,
 ghost use Rattle.connection_laws.specs.Examples.{NeverLooks, tells_in_a_line, tells_in_a_question};
 ghost use Rattle.connection_laws.specs.Taken.{TookAllBefore};
 ghost use Rattle.connection_laws.specs.Between.{IsBetweenRequests};
-ghost use Rattle.connection_laws.specs.Numbers.{DoTheSame};
+ghost use Rattle.connection_laws.specs.Numbers.{DoTheSame, renumbered};
 ghost use Rattle.connection_laws.specs.Replies.{lines_by, lines_written, IsSaidAlone, HaveOwnReplies, HaveOwnLines, IsJobAlone, LearnTheSame};
 
 /// A site whose runs are lawful and mind their own.
@@ -108,6 +113,14 @@ pub fn its_number_changes_nothing<J, R>()
         (es ++ Did (Began now (start.Client c)) ∷ []) (es ++ Did (Began now (start.Client d)) ∷ []) }
     ensures job { (site : Service J R) (es : List (LocalAction J)) (now m n : ℕ) (premature : Bool) (job : J) → DoTheSame (connection_behavior site)
         (es ++ Did (Began now (start.Job m premature job)) ∷ []) (es ++ Did (Began now (start.Job n premature job)) ∷ []) }
+{}
+
+/// Two connections or jobs of one site, in two lawful executions, that weren't dropped and to which the same came from outside but for their numbers have the
+/// same part but for their numbers, whatever all others do. Here n is the number of t. So it is of every site.
+pub fn who_is_given_the_same_does_the_same<J, R>()
+    ensures { (site : Service J R) (ms ns : List (GlobalAction J)) (s t : StrandId) (n : ℕ) → let b = connection_behavior site in
+        IsLawful b ms → IsLawful b ns → was_dropped (part s ms) ≡ false → was_dropped (part t ns) ≡ false
+        → gave (renumbered n (part s ms)) ≡ gave (part t ns) → renumbered n (part s ms) ≡ part t ns }
 {}
 
 /// Two requests that ask the same, and whose runs learn the same, get the same reply, on whatever connections and after whatever else.

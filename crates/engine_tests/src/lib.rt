@@ -1,5 +1,5 @@
-//! Tests of `engine`, and of what it holds: `sleepers` scripted strands, served from a schedule to a history; `live` the live world; `holding` run queue,
-//! deadlines, seats and sockets; `dictionaries` dictionaries, with a table of the plain rules in `laws`.
+//! Tests of `engine`, and of what it holds: `sleepers` scripted strands and `runs` connections of scripted runs, served from a schedule to a history; `live`
+//! the live world; `holding` run queue, deadlines, seats and sockets; `dictionaries` dictionaries, with a table of the plain rules in `laws`.
 #![tactic(auto)]
 
 #[cfg(test)]
@@ -13,6 +13,8 @@ mod holding;
 mod laws;
 #[cfg(test)]
 mod live;
+#[cfg(test)]
+mod runs;
 #[cfg(test)]
 mod sleepers;
 #[cfg(test)]

@@ -1,7 +1,7 @@
 //! Strands that go by scripts, for what no program of Lua asks for yet: turns that are given up, sleep, and memory that is refused (RUN, SLEPT); and until when
 //! the world is asked for events (TWO_SLEEP, TWO_GO).
 use crate::asking::Asking;
-use crate::cases::{EVENTS, hold, site};
+use crate::cases::{EVENTS, Scripted, hold};
 use engine::serve;
 use schedule::schedule_of;
 use std::alloc::Global;
@@ -276,8 +276,8 @@ moment 5
 
 #[test]
 fn strands_run_and_sleep(rt: HostRuntime) {
-    hold(&rt, rt.alloc(), PROGRAMS, RUN);
-    hold(&rt, rt.alloc(), PROGRAMS, SLEPT);
+    hold::<ScriptStrand>(&rt, rt.alloc(), PROGRAMS, RUN);
+    hold::<ScriptStrand>(&rt, rt.alloc(), PROGRAMS, SLEPT);
 }
 
 /// The world after the schedule was served.
@@ -285,7 +285,7 @@ fn asked(alloc: Global, schedule: &str) -> Option<Asking> {
     let Ok(schedule) = schedule_of(alloc, schedule.as_bytes()) else {
         return None;
     };
-    let site = site(alloc, PROGRAMS).ok()?;
+    let site = ScriptStrand::site(alloc, PROGRAMS).ok()?;
     let mut world = Asking::new(alloc, schedule);
     let _ = serve::<ScriptStrand, Asking>(alloc, site, &mut world, EVENTS);
     Some(world)

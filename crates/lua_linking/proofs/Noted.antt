@@ -1,5 +1,5 @@
 -- What is noted of a node in steps, part by part.
-use Rattle.std.proofs.Common.{◌≡◌, ◌⊎◌, ℕ, List, ◌++◌, Result, IsOk, OnOk, Option, Vec, Global, ap, refl, sym, ◌∙◌, append_assoc}
+use Rattle.std.proofs.Common.{◌≡◌, ◌⊎◌, ℕ, List, [], ◌++◌, Result, IsOk, OnOk, Vec, Global, ap, refl, sym, ◌∙◌, append_assoc}
 use Rattle.std.specs.Prelude.{flat_map}
 use Rattle.std.specs.declared.rc.Rc.{Rc}
 use Rattle.std.proofs.lemmas.Result.{on_ok_weaker}
@@ -8,14 +8,15 @@ use Rattle.lua_ast.specs.declared.expressions.ExprKind.{ExprKind}
 use Rattle.lua_ast.specs.declared.expressions.ExprKind as kind
 use Rattle.lua_ast.specs.declared.expressions.BinOp.{BinOp}
 use Rattle.lua_ast.specs.declared.expressions.UnOp.{UnOp}
+use Rattle.lua_ast.specs.declared.expressions.TableItem.{TableItem}
 use Rattle.lua_ast.specs.declared.statements.Stmt.{Stmt}
 use Rattle.lua_ast.specs.declared.statements.StmtKind.{StmtKind}
 use Rattle.lua_ast.specs.declared.statements.StmtKind as stmt
 use Rattle.lua_ast.specs.declared.statements.Arm.{Arm, out-Arm}
 use Rattle.lua_linking.specs.declared.mentions.Mention.{Mention}
-use Rattle.lua_linking.specs.Mentions.{kind_mentions, mentions_in, module_in, stmt_mentions, mentions_in_arm, mentions_in_stmt, mentions_in_range}
+use Rattle.lua_linking.specs.Mentions.{head_mentions, kind_mentions, mentions_in, mentions_in_item, module_in, stmt_mentions, mentions_in_arm, mentions_in_stmt}
 use Rattle.lua_linking.proofs.After.{both}
-use Rattle.lua_linking.proofs.Rows.{pair_is, operand_is, list_is, call_is, method_is, while_is, repeat_is, if_is, numeric_is, generic_is, arm_is}
+use Rattle.lua_linking.proofs.Rows.{pair_is, operand_is, call_is, method_is, table_is, repeat_is, arm_is}
 
 -- the mentions that were there, and those after each part; the second part is noted only where the first is
 module _ {E : Type 0} (q r : Result (Unit {0}) E) (a b c : List Mention) (done : OnOk r (IsOk q)) where
@@ -35,54 +36,25 @@ module _ {E : Type 0} (q r : Result (Unit {0}) E) (a b c : List Mention) (done :
   method_noted k object name values is p s =
       two (mentions_in object.value) (flat_map mentions_in values.value.items) (kind_mentions k) (rw is (method_is object name values)) p s
 
-  pub repeat_noted : (k : StmtKind) (body : Rc (Vec Stmt Global) Global) (test : Rc Expr Global)
-      → k ≡ stmt.Repeat body test → OnOk q (b ≡ a ++ flat_map mentions_in_stmt body.value.items) → OnOk r (c ≡ b ++ mentions_in test.value)
-      → OnOk r (c ≡ a ++ stmt_mentions k)
-  repeat_noted k body test is p s = two (flat_map mentions_in_stmt body.value.items) (mentions_in test.value) (stmt_mentions k) (rw is (repeat_is body test)) p s
-
-  pub if_noted : (k : StmtKind) (arms : Rc (Vec Arm Global) Global) (body : Rc (Vec Stmt Global) Global)
-      → k ≡ stmt.If arms body → OnOk q (b ≡ a ++ flat_map mentions_in_arm arms.value.items) → OnOk r (c ≡ b ++ flat_map mentions_in_stmt body.value.items)
-      → OnOk r (c ≡ a ++ stmt_mentions k)
-  if_noted k arms body is p s =
-      two (flat_map mentions_in_arm arms.value.items) (flat_map mentions_in_stmt body.value.items) (stmt_mentions k) (rw is (if_is arms body)) p s
-
   pub arm_noted : (arm : Arm) → OnOk q (b ≡ a ++ mentions_in (out-Arm arm).test) → OnOk r (c ≡ b ++ flat_map mentions_in_stmt (out-Arm arm).body.value.items)
       → OnOk r (c ≡ a ++ mentions_in_arm arm)
   arm_noted arm p s = two (mentions_in (out-Arm arm).test) (flat_map mentions_in_stmt (out-Arm arm).body.value.items) (mentions_in_arm arm) (arm_is arm) p s
 
 -- one part
-one : {E : Type 0} (r : Result (Unit {0}) E) (a b xs all : List Mention) → all ≡ xs → OnOk r (b ≡ a ++ xs) → OnOk r (b ≡ a ++ all)
+pub one : {E : Type 0} (r : Result (Unit {0}) E) (a b xs all : List Mention) → all ≡ xs → OnOk r (b ≡ a ++ xs) → OnOk r (b ≡ a ++ all)
 one r a b xs all e p = on_ok_weaker r (λ h. h ∙ ap (λ l. a ++ l) (sym e)) p
 
-pub assign_noted : {E : Type 0} (r : Result (Unit {0}) E) (a b : List Mention) (k : StmtKind) (targets values : Rc (Vec Expr Global) Global) → k ≡ stmt.Assign targets values
-    → OnOk r (b ≡ a ++ (flat_map mentions_in targets.value.items ++ flat_map mentions_in values.value.items)) → OnOk r (b ≡ a ++ stmt_mentions k)
-assign_noted r a b k targets values is p =
-    one r a b (flat_map mentions_in targets.value.items ++ flat_map mentions_in values.value.items) (stmt_mentions k) (rw is refl) p
-
-pub while_noted : {E : Type 0} (r : Result (Unit {0}) E) (a b : List Mention) (k : StmtKind) (test : Rc Expr Global) (body : Rc (Vec Stmt Global) Global) → k ≡ stmt.While test body
-    → OnOk r (b ≡ a ++ (mentions_in test.value ++ flat_map mentions_in_stmt body.value.items)) → OnOk r (b ≡ a ++ stmt_mentions k)
-while_noted r a b k test body is p = one r a b (mentions_in test.value ++ flat_map mentions_in_stmt body.value.items) (stmt_mentions k) (rw is (while_is test body)) p
-
-pub numeric_noted : {E : Type 0} (r : Result (Unit {0}) E) (a b : List Mention) (k : StmtKind) (slot : ℕ) (from to : Rc Expr Global) (step : Option (Rc Expr Global))
-    (body : Rc (Vec Stmt Global) Global) → k ≡ stmt.NumericFor slot from to step body
-    → OnOk r (b ≡ a ++ (mentions_in_range from.value to.value step ++ flat_map mentions_in_stmt body.value.items)) → OnOk r (b ≡ a ++ stmt_mentions k)
-numeric_noted r a b k slot from to step body is p =
-    one r a b (mentions_in_range from.value to.value step ++ flat_map mentions_in_stmt body.value.items) (stmt_mentions k) (rw is (numeric_is slot from to step body)) p
-
-pub generic_noted : {E : Type 0} (r : Result (Unit {0}) E) (a b : List Mention) (k : StmtKind) (slots : Rc (Vec ℕ Global) Global) (values : Rc (Vec Expr Global) Global)
-    (body : Rc (Vec Stmt Global) Global) → k ≡ stmt.GenericFor slots values body
-    → OnOk r (b ≡ a ++ (flat_map mentions_in values.value.items ++ flat_map mentions_in_stmt body.value.items)) → OnOk r (b ≡ a ++ stmt_mentions k)
-generic_noted r a b k slots values body is p =
-    one r a b (flat_map mentions_in values.value.items ++ flat_map mentions_in_stmt body.value.items) (stmt_mentions k) (rw is (generic_is slots values body)) p
+pub head_noted : {E : Type 0} (r : Result (Unit {0}) E) (a b xs : List Mention) (k l : StmtKind) → k ≡ l → head_mentions l ≡ xs → OnOk r (b ≡ a ++ xs)
+    → OnOk r (b ≡ a ++ head_mentions k)
+head_noted r a b xs k l is e p = one r a b xs (head_mentions k) (rw is e) p
 
 pub operand_noted : {E : Type 0} (r : Result (Unit {0}) E) (a b : List Mention) (k : ExprKind) (v : Rc Expr Global) → ((op : UnOp) × (k ≡ kind.Unary op v)) ⊎ (k ≡ kind.Paren v)
     → OnOk r (b ≡ a ++ mentions_in v.value) → OnOk r (b ≡ a ++ kind_mentions k)
 operand_noted r a b k v is p = one r a b (mentions_in v.value) (kind_mentions k) (operand_is k v is) p
 
-pub list_noted : {E : Type 0} (r : Result (Unit {0}) E) (a b : List Mention) (k : StmtKind) (values : Rc (Vec Expr Global) Global)
-    → ((slots : Rc (Vec ℕ Global) Global) × (k ≡ stmt.Local slots values)) ⊎ (k ≡ stmt.Return values)
-    → OnOk r (b ≡ a ++ flat_map mentions_in values.value.items) → OnOk r (b ≡ a ++ stmt_mentions k)
-list_noted r a b k values is p = one r a b (flat_map mentions_in values.value.items) (stmt_mentions k) (list_is k values is) p
+pub table_noted : {E : Type 0} (r : Result (Unit {0}) E) (a b : List Mention) (k : ExprKind) (items : Rc (Vec TableItem Global) Global) → k ≡ kind.Table items
+    → OnOk r (b ≡ a ++ flat_map mentions_in_item items.value.items) → OnOk r (b ≡ a ++ kind_mentions k)
+table_noted r a b k items is p = one r a b (flat_map mentions_in_item items.value.items) (kind_mentions k) (rw is (table_is items)) p
 
 -- three parts of a call
 pub call_noted : {E : Type 0} (o q r : Result (Unit {0}) E) (a b c d : List Mention) (k : ExprKind) (callee : Rc Expr Global) (values : Rc (Vec Expr Global) Global)
@@ -94,3 +66,13 @@ call_noted o q r a b c d k callee values is first second p s t =
     let l : List Mention = flat_map mentions_in values.value.items in
     let all : kind_mentions k ≡ m ++ (n ++ l) = rw is (call_is callee values) in
     two q r a c d second (m ++ n) l (kind_mentions k) (all ∙ sym (append_assoc m n l)) (two o q a b c first m n (m ++ n) refl p s) t
+
+-- three parts of a loop whose test comes last, of which the first is empty
+pub repeat_noted : {E : Type 0} (o q r : Result (Unit {0}) E) (a b c d : List Mention) (k : StmtKind) (body : Rc (Vec Stmt Global) Global) (test : Rc Expr Global)
+    → k ≡ stmt.Repeat body test → OnOk q (IsOk o) → OnOk r (IsOk q) → OnOk o (b ≡ a ++ head_mentions k)
+    → OnOk q (c ≡ b ++ flat_map mentions_in_stmt body.value.items) → OnOk r (d ≡ c ++ mentions_in test.value) → OnOk r (d ≡ a ++ stmt_mentions k)
+repeat_noted o q r a b c d k body test is first second p s t =
+    let l : List Mention = flat_map mentions_in_stmt body.value.items in
+    let none : head_mentions k ≡ [] = rw is refl in
+    let all : stmt_mentions k ≡ l ++ mentions_in test.value = rw is (repeat_is body test) in
+    two q r a c d second l (mentions_in test.value) (stmt_mentions k) all (two o q a b c first (head_mentions k) l l (rw none refl) p s) t

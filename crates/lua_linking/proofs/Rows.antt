@@ -1,5 +1,5 @@
 -- What the rows of a tree mention, as lists.
-use Rattle.std.proofs.Common.{◌≡◌, ◌⊎◌, inl, inr, ℕ, List, ◌++◌, Vec, Global, rules, refl, ap, ◌∙◌, subst}
+use Rattle.std.proofs.Common.{◌≡◌, ◌⊎◌, inl, inr, ℕ, List, [], ◌++◌, Vec, Global, rules, refl, ap, ◌∙◌, subst}
 use denote.Hole.Carrier.{roll}
 use Rattle.std.specs.Prelude.{flat_map, Option}
 use Rattle.std.specs.declared.rc.Rc.{Rc}
@@ -15,7 +15,7 @@ use Rattle.lua_ast.specs.declared.statements.StmtKind as stmt
 use Rattle.lua_ast.specs.declared.statements.Arm.{Arm, out-Arm}
 use Rattle.lua_ast.specs.declared.statements.Arm as arm
 use Rattle.lua_linking.specs.Mentions.{kind_mentions, row_mentions, items_mentions, mentions_in, mentions_in_item, module_in, first_kind, row_head}
-use Rattle.lua_linking.specs.Mentions.{stmt_mentions, block_mentions, arms_mentions, mentions_in_arm, mentions_in_stmt, mentions_in_range}
+use Rattle.lua_linking.specs.Mentions.{stmt_mentions, block_mentions, arms_mentions, mentions_in_arm, mentions_in_stmt, head_mentions}
 
 pub row_is : {m : _} (r : kind.Row_of-Expr m) → row_mentions r ≡ flat_map mentions_in (kind.items-the_row-Expr _ r)
 row_is kind.end_of-Expr = refl
@@ -76,10 +76,54 @@ pub operand_is : (k : ExprKind) (v : Rc Expr Global) → ((op : UnOp) × (k ≡ 
 operand_is k v (inl (op, e)) = rw e refl
 operand_is k v (inr e) = rw e refl
 
-pub list_is : (k : StmtKind) (values : Rc (Vec Expr Global) Global) → ((slots : Rc (Vec ℕ Global) Global) × (k ≡ stmt.Local slots values)) ⊎ (k ≡ stmt.Return values)
-    → stmt_mentions k ≡ flat_map mentions_in values.value.items
+-- what the head of a statement mentions
+pub list_is : (k : StmtKind) (values : Rc (Vec Expr Global) Global)
+    → ((slots : Rc (Vec ℕ Global) Global) × (k ≡ stmt.Local slots values))
+    ⊎ ((k ≡ stmt.Return values) ⊎ ((slots : Rc (Vec ℕ Global) Global) × (body : Rc (Vec Stmt Global) Global) × (k ≡ stmt.GenericFor slots values body)))
+    → head_mentions k ≡ flat_map mentions_in values.value.items
 list_is k values (inl (slots, e)) = rw e refl
-list_is k values (inr e) = rw e refl
+list_is k values (inr (inl e)) = rw e refl
+list_is k values (inr (inr (slots, body, e))) = rw e refl
+
+pub if_is : (list : Rc (Vec Arm Global) Global) (body : Rc (Vec Stmt Global) Global)
+    → head_mentions (stmt.If list body) ≡ flat_map mentions_in_arm list.value.items
+if_is list body = arms list.value
+
+pub blank_is : (k : StmtKind)
+    → ((body : Rc (Vec Stmt Global) Global) × (k ≡ stmt.Do body))
+    ⊎ (((body : Rc (Vec Stmt Global) Global) × (test : Rc Expr Global) × (k ≡ stmt.Repeat body test)) ⊎ (k ≡ stmt.Break))
+    → head_mentions k ≡ []
+blank_is k (inl (body, e)) = rw e refl
+blank_is k (inr (inl (body, test, e))) = rw e refl
+blank_is k (inr (inr e)) = rw e refl
+
+-- what a statement with one block after its head mentions, or with none
+pub headed_is : (k : StmtKind) (body : Rc (Vec Stmt Global) Global)
+    → (k ≡ stmt.Do body)
+    ⊎ (((test : Rc Expr Global) × (k ≡ stmt.While test body))
+    ⊎ (((list : Rc (Vec Arm Global) Global) × (k ≡ stmt.If list body))
+    ⊎ (((slot : ℕ) × (from : Rc Expr Global) × (to : Rc Expr Global) × (step : Option (Rc Expr Global)) × (k ≡ stmt.NumericFor slot from to step body))
+    ⊎ ((slots : Rc (Vec ℕ Global) Global) × (values : Rc (Vec Expr Global) Global) × (k ≡ stmt.GenericFor slots values body)))))
+    → stmt_mentions k ≡ head_mentions k ++ flat_map mentions_in_stmt body.value.items
+headed_is k body (inl e) = rw (e, block body.value) refl
+headed_is k body (inr (inl (test, e))) = rw (e, block body.value) refl
+headed_is k body (inr (inr (inl (list, e)))) = rw (e, block body.value) refl
+headed_is k body (inr (inr (inr (inl (slot, from, to, step, e))))) = rw (e, block body.value) refl
+headed_is k body (inr (inr (inr (inr (slots, values, e))))) = rw (e, block body.value) refl
+
+pub plain_is : (k : StmtKind)
+    → ((slots : Rc (Vec ℕ Global) Global) × (values : Rc (Vec Expr Global) Global) × (k ≡ stmt.Local slots values))
+    ⊎ (((slot : ℕ) × (n : ℕ) × (k ≡ stmt.LocalFunction slot n))
+    ⊎ (((targets : Rc (Vec Expr Global) Global) × (values : Rc (Vec Expr Global) Global) × (k ≡ stmt.Assign targets values))
+    ⊎ (((call : Expr) × (k ≡ stmt.Call call))
+    ⊎ (((values : Rc (Vec Expr Global) Global) × (k ≡ stmt.Return values)) ⊎ (k ≡ stmt.Break)))))
+    → stmt_mentions k ≡ head_mentions k
+plain_is k (inl (slots, values, e)) = rw e refl
+plain_is k (inr (inl (slot, n, e))) = rw e refl
+plain_is k (inr (inr (inl (targets, values, e)))) = rw e refl
+plain_is k (inr (inr (inr (inl (call, e))))) = rw e refl
+plain_is k (inr (inr (inr (inr (inl (values, e)))))) = rw e refl
+plain_is k (inr (inr (inr (inr (inr e))))) = rw e refl
 
 -- what a node with lists mentions
 pub call_is : (callee : Rc Expr Global) (values : Rc (Vec Expr Global) Global) →
@@ -93,28 +137,9 @@ method_is object name values = rw (exprs values.value) refl
 pub table_is : (values : Rc (Vec TableItem Global) Global) → kind_mentions (kind.Table values) ≡ flat_map mentions_in_item values.value.items
 table_is values = items values.value
 
-pub do_is : (body : Rc (Vec Stmt Global) Global) → stmt_mentions (stmt.Do body) ≡ flat_map mentions_in_stmt body.value.items
-do_is body = block body.value
-
-pub while_is : (test : Rc Expr Global) (body : Rc (Vec Stmt Global) Global) →
-    stmt_mentions (stmt.While test body) ≡ mentions_in test.value ++ flat_map mentions_in_stmt body.value.items
-while_is test body = rw (block body.value) refl
-
 pub repeat_is : (body : Rc (Vec Stmt Global) Global) (test : Rc Expr Global) →
     stmt_mentions (stmt.Repeat body test) ≡ flat_map mentions_in_stmt body.value.items ++ mentions_in test.value
 repeat_is body test = rw (block body.value) refl
-
-pub if_is : (list : Rc (Vec Arm Global) Global) (body : Rc (Vec Stmt Global) Global) →
-    stmt_mentions (stmt.If list body) ≡ flat_map mentions_in_arm list.value.items ++ flat_map mentions_in_stmt body.value.items
-if_is list body = rw (arms list.value, block body.value) refl
-
-pub numeric_is : (slot : ℕ) (from to : Rc Expr Global) (step : Option (Rc Expr Global)) (body : Rc (Vec Stmt Global) Global) →
-    stmt_mentions (stmt.NumericFor slot from to step body) ≡ mentions_in_range from.value to.value step ++ flat_map mentions_in_stmt body.value.items
-numeric_is slot from to step body = rw (block body.value) refl
-
-pub generic_is : (slots : Rc (Vec ℕ Global) Global) (values : Rc (Vec Expr Global) Global) (body : Rc (Vec Stmt Global) Global) →
-    stmt_mentions (stmt.GenericFor slots values body) ≡ flat_map mentions_in values.value.items ++ flat_map mentions_in_stmt body.value.items
-generic_is slots values body = rw (block body.value) refl
 
 arm_rolled : (a : _) → mentions_in_arm (arm.roll-Arm a) ≡ mentions_in a.test ++ flat_map mentions_in_stmt a.body.value.items
 unfolding arm.roll-Arm roll
@@ -124,5 +149,3 @@ pub arm_is : (a : Arm) → mentions_in_arm a ≡ mentions_in (out-Arm a).test ++
 arm_is a =
     let e : arm.roll-Arm (out-Arm a) ≡ a = search (rules, arm.the_lemmas) in
     subst (λ b. mentions_in_arm b ≡ mentions_in (out-Arm a).test ++ flat_map mentions_in_stmt (out-Arm a).body.value.items) e (arm_rolled (out-Arm a))
-
-pub ruleset of_statements = (do_is, while_is, repeat_is, if_is, numeric_is, generic_is)

@@ -109,5 +109,18 @@ abbrev mutual
   pub mentions_in_arm : Arm → List Mention
   mentions_in_arm (arm.Arm' test p shape row) = mentions_in test ++ block_mentions row
 
+-- what stands in a statement before its last block: all of one without blocks, and nothing of a `repeat`, whose test comes after its block
+abbrev pub head_mentions : StmtKind → List Mention
+head_mentions (stmt.Local slots values) = flat_map mentions_in values.value.items
+head_mentions (stmt.LocalFunction slot n) = Inner n ∷ []
+head_mentions (stmt.Assign targets values) = flat_map mentions_in targets.value.items ++ flat_map mentions_in values.value.items
+head_mentions (stmt.Call e) = mentions_in e
+head_mentions (stmt.While' test p shape row) = mentions_in test.value
+head_mentions (stmt.If' p shape arms q form row) = arms_mentions arms
+head_mentions (stmt.NumericFor' slot from to step p shape row) = mentions_in_range from.value to.value step
+head_mentions (stmt.GenericFor' slots values p shape row) = flat_map mentions_in values.value.items
+head_mentions (stmt.Return values) = flat_map mentions_in values.value.items
+head_mentions other = []
+
 abbrev pub mentions_in_stmt : Stmt → List Mention
 mentions_in_stmt s = stmt_mentions s.kind

@@ -10,7 +10,6 @@ use std::rc::Rc;
 
 /// Notes what an expression mentions.
 #[cycle(mentions)]
-#[tactic(auto, using(crate::proofs::Rows::table_is))]
 pub(crate) fn mentions_in(expr: &Expr, mentions: &mut Vec<Mention>) -> Result<(), AllocError>
     ensures { OnOk result (mentions.new.items ≡ mentions.old.items ++ spec.mentions_in expr.now) }
 {

@@ -13,45 +13,66 @@ use std::rc::Rc;
 
 /// Notes what a statement mentions.
 #[cycle(statement)]
-#[tactic(auto, using(crate::proofs::Rows::do_is))]
 fn mentions_in_stmt(stmt: &Stmt, mentions: &mut Vec<Mention>) -> Result<(), AllocError>
     ensures { OnOk result (mentions.new.items ≡ mentions.old.items ++ spec.mentions_in_stmt stmt.now) }
 {
+    let head = mentions_in_head(stmt, mentions);
     match &stmt.kind {
-        StmtKind::Local(_, values) | StmtKind::Return(values) => mentions_in_list(values, mentions),
+        StmtKind::Do(body)
+        | StmtKind::While(_, body)
+        | StmtKind::If(_, body)
+        | StmtKind::NumericFor {
+            slot: _,
+            from: _,
+            to: _,
+            step: _,
+            body,
+        }
+        | StmtKind::GenericFor {
+            slots: _,
+            values: _,
+            body,
+        } => block_after(head, body, mentions),
+        StmtKind::Repeat(body, test) => {
+            mentions_after(block_after(head, body, mentions), test, mentions)
+        }
+        StmtKind::Local(_, _)
+        | StmtKind::LocalFunction(_, _)
+        | StmtKind::Assign(_, _)
+        | StmtKind::Call(_)
+        | StmtKind::Return(_)
+        | StmtKind::Break => head,
+    }
+}
+
+/// Notes what stands in a statement before its last block: all of one without blocks, and nothing of a `repeat`, whose test comes
+/// after its block.
+#[cycle(statement)]
+fn mentions_in_head(stmt: &Stmt, mentions: &mut Vec<Mention>) -> Result<(), AllocError>
+    ensures { OnOk result (mentions.new.items ≡ mentions.old.items ++ spec.head_mentions stmt.now.kind) }
+{
+    match &stmt.kind {
+        StmtKind::Local(_, values)
+        | StmtKind::Return(values)
+        | StmtKind::GenericFor {
+            slots: _,
+            values,
+            body: _,
+        } => mentions_in_list(values, mentions),
         StmtKind::LocalFunction(_, number) => mention_function(*number, mentions),
         StmtKind::Assign(targets, values) => mentions_in_lists(targets, values, mentions),
         StmtKind::Call(call) => mentions_in(call, mentions),
-        StmtKind::Do(body) => mentions_in_body(body, mentions),
-        StmtKind::While(test, body) => mentions_in_while(body, test, mentions),
-        StmtKind::Repeat(body, test) => {
-            mentions_after(mentions_in_body(body, mentions), test, mentions)
-        }
-        StmtKind::If(arms, otherwise) => {
-            block_after(mentions_in_choices(arms, mentions), otherwise, mentions)
-        }
+        StmtKind::While(test, _) => mentions_in_shared(test, mentions),
+        StmtKind::If(arms, _) => mentions_in_choices(arms, mentions),
         StmtKind::NumericFor {
             slot: _,
             from,
             to,
             step,
-            body,
-        } => mentions_in_numeric(body, from, to, step, mentions),
-        StmtKind::GenericFor {
-            slots: _,
-            values,
-            body,
-        } => mentions_in_generic(body, values, mentions),
-        StmtKind::Break => Ok(()),
+            body: _,
+        } => mentions_in_range(from, to, step, mentions),
+        StmtKind::Do(_) | StmtKind::Repeat(_, _) | StmtKind::Break => Ok(()),
     }
-}
-
-/// Notes what the statements of a body mention.
-#[cycle(statement)]
-fn mentions_in_body(body: &Rc<Vec<Stmt>>, mentions: &mut Vec<Mention>) -> Result<(), AllocError>
-    ensures { OnOk result (mentions.new.items ≡ mentions.old.items ++ flat_map spec.mentions_in_stmt body.now.value.items) }
-{
-    mentions_in_block(body, mentions)
 }
 
 /// Notes what each statement of a block mentions, where what comes before them in the text is noted.
@@ -82,60 +103,19 @@ fn mentions_in_lists(
     each_after(mentions_in_list(targets, mentions), values, mentions)
 }
 
-/// Notes what the test and the body of a loop mention.
-#[cycle(statement)]
-fn mentions_in_while(
-    body: &Rc<Vec<Stmt>>,
-    test: &Rc<Expr>,
-    mentions: &mut Vec<Mention>,
-) -> Result<(), AllocError>
-    ensures { OnOk result (mentions.new.items ≡ mentions.old.items
-        ++ (spec.mentions_in test.now.value ++ flat_map spec.mentions_in_stmt body.now.value.items)) }
-{
-    block_after(mentions_in_shared(test, mentions), body, mentions)
-}
-
-/// Notes what the numbers and the body of a loop mention.
-#[cycle(statement)]
-fn mentions_in_numeric(
-    body: &Rc<Vec<Stmt>>,
+/// Notes what the numbers of a loop mention: the first, the last, and the step if there is one.
+fn mentions_in_range(
     from: &Rc<Expr>,
     to: &Rc<Expr>,
     step: &Option<Rc<Expr>>,
     mentions: &mut Vec<Mention>,
 ) -> Result<(), AllocError>
-    ensures { OnOk result (mentions.new.items ≡ mentions.old.items
-        ++ (spec.mentions_in_range from.now.value to.now.value step.now ++ flat_map spec.mentions_in_stmt body.now.value.items)) }
+    ensures { OnOk result (mentions.new.items ≡ mentions.old.items ++ spec.mentions_in_range from.now.value to.now.value step.now) }
 {
-    block_after(mentions_in_range(from, to, step, mentions), body, mentions)
-}
-
-/// Notes what the values and the body of a loop mention.
-#[cycle(statement)]
-fn mentions_in_generic(
-    body: &Rc<Vec<Stmt>>,
-    values: &Rc<Vec<Expr>>,
-    mentions: &mut Vec<Mention>,
-) -> Result<(), AllocError>
-    ensures { OnOk result (mentions.new.items ≡ mentions.old.items
-        ++ (flat_map spec.mentions_in values.now.value.items ++ flat_map spec.mentions_in_stmt body.now.value.items)) }
-{
-    block_after(mentions_in_list(values, mentions), body, mentions)
-}
-
-/// Notes what the numbers of a loop mention: the first, the last, and the step if there is one.
-fn mentions_in_range(
-    from: &Expr,
-    to: &Expr,
-    step: &Option<Rc<Expr>>,
-    mentions: &mut Vec<Mention>,
-) -> Result<(), AllocError>
-    ensures { OnOk result (mentions.new.items ≡ mentions.old.items ++ spec.mentions_in_range from.now to.now step.now) }
-{
-    mentions_in(from, mentions)?;
-    mentions_in(to, mentions)?;
+    mentions_in_shared(from, mentions)?;
+    mentions_in_shared(to, mentions)?;
     match step {
-        Some(step) => mentions_in(step, mentions),
+        Some(step) => mentions_in_shared(step, mentions),
         None => Ok(()),
     }
 }

@@ -1,7 +1,6 @@
 -- A world that passed lines and gave no event by them.
-use Rattle.std.proofs.Common.{◌≡◌, ◌⊎◌, ℕ, ◌≤◌, true, List, [], length, take, reverse, Option, Some, None, slice_get, refl, sym, ap, subst, ◌∙◌, arith}
+use Rattle.std.proofs.Common.{◌≡◌, ℕ, ◌≤◌, true, List, [], length, reverse, Option, Some, None, slice_get, refl, sym, ap, subst, ◌∙◌, arith}
 use Rattle.std.proofs.Math.Nat.{le_refl, le_trans}
-use Rattle.resty_base.specs.Counting.{Rose}
 use Rattle.resty_base.specs.declared.names.Id.{Id}
 use Rattle.resty_base.specs.declared.names.Id.TheVariants as id
 use Rattle.resty_world.specs.declared.entry.Entry.{Entry}
@@ -9,7 +8,7 @@ use Rattle.resty_world.specs.declared.event.Event.{Event}
 use Rattle.resty_world.specs.declared.event.Event.TheVariants as event
 use Rattle.resty_world.specs.Book.{Book, told}
 use Rattle.resty_world.specs.declared.schedule_line.SchedLine.{SchedLine}
-use Rattle.resty_world.specs.Given.{IsFit, IsBadLine, EndsByFailing, Gave, named_id, names_absent}
+use Rattle.resty_world.specs.Given.{IsFit, IsBadLine, Gave, named_id, names_absent}
 use Rattle.schedule.specs.declared.replay.Replay.{Replay}
 use Rattle.schedule.specs.Counts.{arrived_in, dials_in}
 use Rattle.schedule.specs.Knowing.{Knows}
@@ -193,27 +192,6 @@ gave-bad old passed mid n below is bad = record {
   arrivals = ap (λ (b : Book). b.arrivals) is ∙ omega arith;
   dials = ap (λ (b : Book). b.dials) is;
   faults = ap (λ (b : Book). b.faults) is;
-  losses = ap (λ (b : Book). b.losses) is;
-  port = ap (λ (b : Book). b.port) is;
-}
-
--- the world failed, as its lines have it
-pub gave-fault : (old new : Replay) → book_of new ≡ record (book_of old) { passed = new.passed; faults = new.faults } → old.passed ≤ new.passed → Rose old.faults new.faults
-    → EndsByFailing (take new.passed new.course) ⊎ (take new.passed new.course ≡ new.course) → Gave (book_of old) (book_of new) event.Fault
-gave-fault old new is below rose cause = record {
-  history = ap (λ (b : Book). b.history) is ∙ told-same (book_of old).history;
-  offered = ap (λ (b : Book). b.offered) is;
-  schedule = ap (λ (b : Book). b.schedule) is;
-  passed = below;
-  fit = tt;
-  caused = cause;
-  is_open = λ x. ap (λ (b : Book). b.is_open x) is;
-  has_ended = λ x. ap (λ (b : Book). b.has_ended x) is;
-  id_aside = λ x. ap (λ (b : Book). b.id_aside x) is;
-  strand_aside = λ s. ap (λ (b : Book). b.strand_aside s) is;
-  arrivals = ap (λ (b : Book). b.arrivals) is ∙ omega arith;
-  dials = ap (λ (b : Book). b.dials) is;
-  faults = rose;
   losses = ap (λ (b : Book). b.losses) is;
   port = ap (λ (b : Book). b.port) is;
 }

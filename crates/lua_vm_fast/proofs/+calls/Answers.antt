@@ -90,49 +90,49 @@ calls::operated_at-returns-clause-gives t c =
     c.in_ok-a.ensures.gives c.in_ok-b.ensures.gives c.in_ok-number.ensures (omega (arith, c.if-levels-eq0.false)) refl
 
 pub calls::value_at-operated_at-requires : goal.calls::value_at-operated_at-requires
-calls::value_at-operated_at-requires t c = grind (arith, common_steps)
+calls::value_at-operated_at-requires t c = (omega (arith, c.decreases), tt)
 
 pub calls::value_at-one_called-requires : goal.calls::value_at-one_called-requires
-calls::value_at-one_called-requires t c = grind (arith, common_steps)
+calls::value_at-one_called-requires t c = (omega (arith, c.decreases), tt)
 
 pub calls::operated_at-number_at-requires : goal.calls::operated_at-number_at-requires
-calls::operated_at-number_at-requires t c = grind (arith, common_steps)
+calls::operated_at-number_at-requires t c = (omega (arith, c.decreases, c.if-levels-eq0.false), tt)
 
 pub calls::operated_at-number_at-requires-2 : goal.calls::operated_at-number_at-requires-2
-calls::operated_at-number_at-requires-2 t c = grind (arith, common_steps)
+calls::operated_at-number_at-requires-2 t c = (omega (arith, c.decreases, c.if-levels-eq0.false), tt)
 
 pub calls::one_called-called_of-requires : goal.calls::one_called-called_of-requires
-calls::one_called-called_of-requires t c = grind (arith, common_steps)
+calls::one_called-called_of-requires t c = (omega (arith, c.decreases), tt)
 
 pub calls::number_at-value_at-requires : goal.calls::number_at-value_at-requires
-calls::number_at-value_at-requires t c = grind (arith, common_steps)
+calls::number_at-value_at-requires t c = (omega (arith, c.decreases), tt)
 
 pub calls::give-value_at-requires : goal.calls::give-value_at-requires
-calls::give-value_at-requires t c = grind (arith, common_steps)
+calls::give-value_at-requires t c = (omega (arith, c.decreases), tt)
 
 pub calls::closure_end-block_end-requires : goal.calls::closure_end-block_end-requires
-calls::closure_end-block_end-requires t c = grind (arith, common_steps)
+calls::closure_end-block_end-requires t c = (omega (arith, c.decreases), tt)
 
 pub calls::called_of-give-requires : goal.calls::called_of-give-requires
-calls::called_of-give-requires t c = grind (arith, common_steps)
+calls::called_of-give-requires t c = (omega (arith, c.decreases, c.if-levels-eq0.false), grind (arith, common_steps))
 
 pub calls::called_of-closure_end-requires : goal.calls::called_of-closure_end-requires
-calls::called_of-closure_end-requires t c = grind (arith, common_steps)
+calls::called_of-closure_end-requires t c = (omega (arith, c.decreases, c.if-levels-eq0.false), tt)
 
 pub bodies::stmt_end-if_end-requires : goal.bodies::stmt_end-if_end-requires
-bodies::stmt_end-if_end-requires t c = grind (arith, common_steps)
+bodies::stmt_end-if_end-requires t c = (omega (arith, c.decreases), tt)
 
 pub bodies::if_end-block_end-requires : goal.bodies::if_end-block_end-requires
-bodies::if_end-block_end-requires t c = grind (arith, common_steps)
+bodies::if_end-block_end-requires t c = (omega (arith, c.decreases, c.if-levels-eq0.false), tt)
 
 pub bodies::block_end-stmt_end-requires : goal.bodies::block_end-stmt_end-requires
-bodies::block_end-stmt_end-requires t c = grind (arith, common_steps)
+bodies::block_end-stmt_end-requires t c = (omega (arith, c.decreases), tt)
 
 pub calls::called_of-returns-clause-few : goal.calls::called_of-returns-clause-few
 calls::called_of-returns-clause-few t c = grind (arith, common_steps)
 
 pub calls::operated_at-returns-clause-few : goal.calls::operated_at-returns-clause-few
-calls::operated_at-returns-clause-few t c = grind (arith, common_steps)
+calls::operated_at-returns-clause-few t c = omega (arith, c.if-steps-ge-STEP_LIMIT.false)
 
 pub calls::closure_end-returns-clause-few : goal.calls::closure_end-returns-clause-few
 calls::closure_end-returns-clause-few t c = grind (arith, common_steps)
@@ -141,4 +141,4 @@ pub bodies::if_end-returns-clause-few : goal.bodies::if_end-returns-clause-few
 bodies::if_end-returns-clause-few t c = grind (arith, common_steps)
 
 pub calls::give-returns-clause-few : goal.calls::give-returns-clause-few
-calls::give-returns-clause-few t c = grind (arith, common_steps)
+calls::give-returns-clause-few t c = omega arith

@@ -56,34 +56,34 @@ pub places::value_of-returns-in-Text-clause-gives : goal.places::value_of-return
 places::value_of-returns-in-Text-clause-gives t c = text_seen c.args.x.now c.args.slots.now c.args.store.now.heap c.in-Text.text c.text_value.result c.in-Text.is c.text_value.ensures.value c.text_value.ensures.steps
 
 pub numbers::number_of-operated-requires : goal.numbers::number_of-operated-requires
-numbers::number_of-operated-requires t c = grind (arith, common_steps)
+numbers::number_of-operated-requires t c = (omega (arith, c.decreases), tt)
 
 pub numbers::number_of-number_seen-requires : goal.numbers::number_of-number_seen-requires
-numbers::number_of-number_seen-requires t c = grind (arith, common_steps)
+numbers::number_of-number_seen-requires t c = (omega (arith, c.decreases), tt)
 
 pub numbers::operated-number_of-requires : goal.numbers::operated-number_of-requires
-numbers::operated-number_of-requires t c = grind (arith, common_steps)
+numbers::operated-number_of-requires t c = (omega (arith, c.decreases, c.if-levels-eq0.false), tt)
 
 pub numbers::operated-number_of-requires-2 : goal.numbers::operated-number_of-requires-2
-numbers::operated-number_of-requires-2 t c = grind (arith, common_steps)
+numbers::operated-number_of-requires-2 t c = (omega (arith, c.decreases, c.if-levels-eq0.false), tt)
 
 pub numbers::number_seen-seen_of-requires : goal.numbers::number_seen-seen_of-requires
-numbers::number_seen-seen_of-requires t c = grind (arith, common_steps)
+numbers::number_seen-seen_of-requires t c = (omega (arith, c.decreases), tt)
 
 pub places::seen_of-seen_at-requires : goal.places::seen_of-seen_at-requires
-places::seen_of-seen_at-requires t c = grind (arith, common_steps)
+places::seen_of-seen_at-requires t c = (omega (arith, c.decreases), tt)
 
 pub places::seen_at-seen_of-requires : goal.places::seen_at-seen_of-requires
-places::seen_at-seen_of-requires t c = grind (arith, common_steps)
+places::seen_at-seen_of-requires t c = (omega (arith, c.decreases, c.if-levels-eq0.false), tt)
 
 pub places::seen_at-seen_in-requires : goal.places::seen_at-seen_in-requires
-places::seen_at-seen_in-requires t c = grind (arith, common_steps)
+places::seen_at-seen_in-requires t c = (omega (arith, c.decreases, c.if-levels-eq0.false), c.in_ok-object.ensures.few)
 
 pub places::seen_in-value_of-requires : goal.places::seen_in-value_of-requires
-places::seen_in-value_of-requires t c = grind (arith, common_steps)
+places::seen_in-value_of-requires t c = (omega (arith, c.decreases), tt)
 
 pub places::seen_in-named-requires : goal.places::seen_in-named-requires
-places::seen_in-named-requires t c = grind (arith, common_steps)
+places::seen_in-named-requires t c = omega arith
 
 pub places::seen_in-found-requires : goal.places::seen_in-found-requires
 places::seen_in-found-requires t c = grind (arith, common_steps)
@@ -92,7 +92,7 @@ pub places::seen_in-found-requires-in_default : goal.places::seen_in-found-requi
 places::seen_in-found-requires-in_default t c = grind (arith, common_steps)
 
 pub places::value_of-number_of-requires : goal.places::value_of-number_of-requires
-places::value_of-number_of-requires t c = grind (arith, common_steps)
+places::value_of-number_of-requires t c = (omega (arith, c.decreases), tt)
 
 pub places::value_of-seen_of-requires : goal.places::value_of-seen_of-requires
-places::value_of-seen_of-requires t c = grind (arith, common_steps)
+places::value_of-seen_of-requires t c = (omega (arith, c.decreases), tt)

@@ -8,6 +8,7 @@ use Rattle.lua_linking.proofs.After.{both}
 use Rattle.lua_linking.proofs.Leaves.{leaf}
 use Rattle.lua_linking.proofs.Lists.{zipped}
 use Rattle.lua_linking.proofs.Nodes.{index_raised, binary_raised, and_raised, or_raised, unary_raised, paren_raised, call_raised, method_raised, table_raised}
+use Rattle.std.proofs.lemmas.Grind.{common_steps}
 use Rattle.lua_linking.proofs.expressions.+raise.Goals as goal
 
 pub raise_kind-returns-in-Index : goal.raise_kind-returns-in-Index
@@ -103,3 +104,9 @@ raise_list-returns t c =
     subst (λ v. AllZip (RaisedExpr c.args.by) v.items c.loop-i.exprs.items) c.in-Some.ensures.value
     (zipped (RaisedExpr c.args.by) c.in-Some.exprs.now.items c.loop-i.exprs.items (sym c.loop-i.invariant.0.0)
     (λ k d p. c.loop-i.invariant.1 k d (omega (arith, p, c.loop-i-test.false, count))))
+
+pub raise_list-loop-i-preserved : goal.raise_list-loop-i-preserved
+raise_list-loop-i-preserved t c = grind (arith, common_steps)
+
+pub raise_items-loop-i-preserved : goal.raise_items-loop-i-preserved
+raise_items-loop-i-preserved t c = grind (arith, common_steps)

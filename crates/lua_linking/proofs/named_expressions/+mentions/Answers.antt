@@ -1,8 +1,9 @@
-use Rattle.std.proofs.Common.{◌≡◌, [], refl}
+use Rattle.std.proofs.Common.{◌≡◌, [], arith, refl}
 use Rattle.std.proofs.lemmas.List.{append-nil}
 use Rattle.lua_linking.specs.Mentions.{kind_mentions}
 use Rattle.lua_linking.proofs.Leaves.{leaf}
-use Rattle.lua_linking.proofs.Noted.{call_noted, method_noted, operand_noted, pair_noted}
+use Rattle.lua_linking.proofs.Noted.{call_noted, method_noted, operand_noted, pair_noted, table_noted}
+use Rattle.std.proofs.lemmas.Grind.{common_steps}
 use Rattle.lua_linking.proofs.named_expressions.+mentions.Goals as goal
 
 pub mentions_in-returns-in-Index : goal.mentions_in-returns-in-Index
@@ -30,3 +31,12 @@ pub mentions_in-returns-in-Method : goal.mentions_in-returns-in-Method
 mentions_in-returns-in-Method t c =
     method_noted c.mentions_in_shared.result c.each_after-in-Method.result _ _ _ c.each_after-in-Method.ensures.before c.args.expr.now.kind c.in-Method.object c.in-Method.field-1
     c.in-Method.values c.in-Method.is c.mentions_in_shared.ensures c.each_after-in-Method.ensures.notes
+
+pub mentions_in_each-loop-expr-preserved : goal.mentions_in_each-loop-expr-preserved
+mentions_in_each-loop-expr-preserved t c = grind (arith, common_steps)
+
+pub mentions_in_items-loop-item-preserved : goal.mentions_in_items-loop-item-preserved
+mentions_in_items-loop-item-preserved t c = grind (arith, common_steps)
+
+pub mentions_in-returns-in-Table : goal.mentions_in-returns-in-Table
+mentions_in-returns-in-Table t c = table_noted c.mentions_in_table.result _ _ c.args.expr.now.kind c.in-Table.items c.in-Table.is c.mentions_in_table.ensures

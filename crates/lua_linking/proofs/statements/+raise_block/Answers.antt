@@ -10,6 +10,7 @@ use Rattle.lua_linking.proofs.After.{both, first, pair}
 use Rattle.lua_linking.proofs.Lists.{zipped}
 use Rattle.lua_linking.proofs.Nodes.{arm_raised, assign_raised, call_statement_raised, do_raised, generic_raised, if_raised, local_raised, numeric_raised}
 use Rattle.lua_linking.proofs.Nodes.{repeat_raised, return_raised, while_raised}
+use Rattle.std.proofs.lemmas.Grind.{common_steps}
 use Rattle.lua_linking.proofs.statements.+raise_block.Goals as goal
 
 pub raise_arms-returns : goal.raise_arms-returns
@@ -132,3 +133,9 @@ raise_stmt_kind-returns-in-GenericFor t c =
 
 pub raise_generic-returns-clause-values : goal.raise_generic-returns-clause-values
 raise_generic-returns-clause-values t c = first _ c.raise_list.result c.raise_block_after.result c.raise_block_after.ensures.before c.raise_list.ensures
+
+pub raise_block-loop-i-preserved : goal.raise_block-loop-i-preserved
+raise_block-loop-i-preserved t c = grind (arith, common_steps)
+
+pub raise_arms-loop-i-preserved : goal.raise_arms-loop-i-preserved
+raise_arms-loop-i-preserved t c = grind (arith, common_steps)

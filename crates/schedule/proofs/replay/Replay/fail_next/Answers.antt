@@ -3,7 +3,6 @@ use Rattle.std.proofs.lemmas.Option.{slice_get_within}
 use Rattle.resty_world.specs.declared.schedule_line.SchedLine.TheVariants as line
 use Rattle.schedule.proofs.NextLine.{fault_ahead}
 use Rattle.schedule.proofs.Passing.{arrivals-more, take-more}
-use Rattle.schedule.proofs.Running.{gave-fault}
 use Rattle.schedule.specs.Steps.{within_asking}
 use Rattle.schedule.proofs.Standing.{passes}
 use Rattle.schedule.proofs.replay.Replay.fail_next.Goals as goal
@@ -35,7 +34,23 @@ pub returns-clause-gave : goal.returns-clause-gave
 returns-clause-gave c =
     let world = c.args.self.now in
     let here = fault_ahead world.history.entries (slice_get world.course world.passed) c.requires in
-    gave-fault world _ refl (omega arith) c.one_more-self.ensures.rose (inl (take world.passed world.course, take-more world.course world.passed line.FailNext here))
+    record {
+      history = refl;
+      offered = refl;
+      schedule = refl;
+      passed = omega arith;
+      fit = tt;
+      caused = inl (take world.passed world.course, take-more world.course world.passed line.FailNext here);
+      is_open = λ x. refl;
+      has_ended = λ x. refl;
+      id_aside = λ x. refl;
+      strand_aside = λ s. refl;
+      arrivals = omega arith;
+      dials = refl;
+      faults = c.one_more-self.ensures.rose;
+      losses = refl;
+      port = refl;
+    }
 
 pub returns-clause-answered : goal.returns-clause-answered
 returns-clause-answered c =

@@ -1,0 +1,5 @@
+pub mod Scripted
+pub mod Deadlines
+pub mod Steps
+pub mod ScriptedLaws
+pub mod Turns
