@@ -34,11 +34,21 @@ pub(crate) enum Work {
 }
 
 /// A run of a site of Lua, over a machine.
-#[derive(Drop)]
 pub struct LuaRun<M> {
     pub(crate) work: Work,
     pub(crate) has_client: bool,
     pub(crate) machine: PhantomData<M>,
+}
+
+/// Written out, so that a crate that drops one needs no proof of how requests are dropped.
+impl<M: Drop> Drop for LuaRun<M> {
+    fn drop(self) {
+        let LuaRun {
+            work: _,
+            has_client: _,
+            machine: _,
+        } = self;
+    }
 }
 
 /// A turn that does nothing.
