@@ -31,12 +31,23 @@ pub struct Chunks {
 
 /// The modules and blocks of Lua of a site: one program, and the numbers of their chunks among its functions, each list in the
 /// order of adding.
-#[derive(Drop)]
 pub struct ModuleSet {
     program: Program,
     preludes: Vec<u32>,
     modules: Vec<Module>,
     blocks: Vec<u32>,
+}
+
+/// Written out, so that a crate that drops one needs no proof of how programs are dropped.
+impl Drop for ModuleSet {
+    fn drop(self) {
+        let ModuleSet {
+            program: _,
+            preludes: _,
+            modules: _,
+            blocks: _,
+        } = self;
+    }
 }
 
 /// The list of one file.
