@@ -20,8 +20,8 @@ impl<T> Model for Listing<T> {
     ghost invariant = { λ list. length list.items.items < 2 ^ 32 };
 }
 
-impl<T: Drop> Listing<T> {
-    ghost use Rattle.std.specs.Prelude.{◌≡◌, ◌++◌, ◌∷◌, [], ◌<◌, ◌^◌, length, OnOk};
+impl<T> Listing<T> {
+    ghost use Rattle.std.specs.Prelude.{◌≡◌, [], ◌<◌, ◌^◌, length};
 
     /// No items; takes no memory.
     pub fn new(alloc: Global) -> Listing<T>
@@ -46,6 +46,19 @@ impl<T: Drop> Listing<T> {
     {
         self.items.len() as u32
     }
+
+    /// The items as a `Vec`; takes no memory.
+    pub fn into_vec(self) -> Vec<T>
+        ensures value { result.items ≡ self }
+        ensures few { length self < 2 ^ 32 }
+    {
+        let Listing { items } = self;
+        items
+    }
+}
+
+impl<T: Drop> Listing<T> {
+    ghost use Rattle.std.specs.Prelude.{◌≡◌, ◌++◌, ◌∷◌, [], OnOk};
 
     /// Adds an item at the end; one too many is refused as if memory ran out.
     pub fn push(&mut self, item: T) -> Result<(), AllocError>
@@ -75,14 +88,5 @@ impl<T: Drop> Listing<T> {
         ensures left { self.new ≡ [] }
     {
         mem::replace(self, Listing::new(alloc))
-    }
-
-    /// The items as a `Vec`; takes no memory.
-    pub fn into_vec(self) -> Vec<T>
-        ensures value { result.items ≡ self }
-        ensures few { length self < 2 ^ 32 }
-    {
-        let Listing { items } = self;
-        items
     }
 }

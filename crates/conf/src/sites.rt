@@ -5,7 +5,6 @@ use conf_rules::LocationKind;
 use resty_base::{ByteLists, Bytes, Ms};
 
 /// What the text of a site says. Servers, locations and blocks of Lua are numbered from 0 in the order of the text.
-#[derive(Drop)]
 pub struct Conf {
     /// The port of all servers.
     pub port: u16,
@@ -22,6 +21,23 @@ pub struct Conf {
     /// The server of requests whose host no server names.
     pub default_server: u32,
     pub servers: Listing<ServerConf>,
+}
+
+/// Written out, so that a crate that drops one needs no proof of how its parts are dropped.
+impl Drop for Conf {
+    fn drop(self) {
+        let Conf {
+            port: _,
+            connections: _,
+            log_level: _,
+            zones: _,
+            package: _,
+            blocks: _,
+            init: _,
+            default_server: _,
+            servers: _,
+        } = self;
+    }
 }
 
 /// A shared dictionary, with its size in bytes.
