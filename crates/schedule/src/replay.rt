@@ -25,7 +25,6 @@ mod writing;
 ///
 /// Its history has room for one entry more for each id that is open and for each strand for which room is set aside, and for
 /// the entries that may still be noted.
-#[derive(Drop)]
 pub struct Replay {
     course: Course,
     /// How many lines were passed.
@@ -57,6 +56,28 @@ pub struct Replay {
     ghost strands: { spare ≤ aside.free },
     ghost room: { rooms open_count aside spare ≤ history.room },
     ghost counted: { rooms open_count aside spare < 2 ^ 64 },
+}
+
+/// Written out, so that a crate that drops one needs no proof of how its parts are dropped.
+impl Drop for Replay {
+    fn drop(self) {
+        let Replay {
+            course: _,
+            passed: _,
+            history: _,
+            offered: _,
+            open_count: _,
+            aside: _,
+            spare: _,
+            peers: _,
+            dial_fails: _,
+            log_fails: _,
+            listen_fails: _,
+            faults: _,
+            losses: _,
+            port: _,
+        } = self;
+    }
 }
 
 impl Replay {
