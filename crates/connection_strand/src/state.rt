@@ -8,7 +8,6 @@ use std::alloc::AllocError;
 use strand_contract::{Act, Acts};
 
 /// The strand of a client's connection, or of a timer job: `R` answers its requests, or is the job.
-#[derive(Drop)]
 pub struct Connection<R> {
     pub(crate) client: Client,
     /// What answers the request, or is the job, until it is over.
@@ -22,6 +21,21 @@ pub struct Connection<R> {
     pub(crate) keeping: Option<u32>,
     /// The newest turn that wasn't an answer began as the client took bytes: its offer goes on.
     pub(crate) is_taking: bool,
+}
+
+/// Written out, so that a crate that drops one needs no proof of how its parts are dropped.
+impl<R: Drop> Drop for Connection<R> {
+    fn drop(self) {
+        let Connection {
+            client: _,
+            run: _,
+            waits: _,
+            sockets: _,
+            count: _,
+            keeping: _,
+            is_taking: _,
+        } = self;
+    }
 }
 
 /// A turn that is taken.
