@@ -59,10 +59,13 @@ abbrev pub unanswered_by : StoreFault → Unanswered
 unanswered_by store.Memory = unanswered.Memory
 unanswered_by fault = unanswered.Refused (refused_by fault) no_work
 
--- goes on once the heap is written, unless a cause refuses it
+-- goes on once the heap is written, unless a cause refuses it, after some work or after none
+abbrev pub unless_refused_after : Work → Option StoreFault → Heap → LibraryResult → LibraryResult
+unless_refused_after work None heap go = go
+unless_refused_after work (Some cause) heap go = Refused (refused_by cause) heap work
+
 abbrev pub unless_refused : Option StoreFault → Heap → LibraryResult → LibraryResult
-unless_refused None heap go = go
-unless_refused (Some cause) heap go = refuses (refused_by cause) heap
+unless_refused cause heap go = unless_refused_after no_work cause heap go
 
 -- the values and the heap are those that are meant, but for values that the steps aren't enough for
 pub record IsGift (values : List Value) (heap : Heap) (done : Work) (old : StoreView) (given : Given) (new : StoreView) : Type 0 where

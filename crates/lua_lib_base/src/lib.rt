@@ -13,8 +13,8 @@ mod work;
 
 pub use answers::{Given, Unanswered, answer};
 pub use arguments::Args;
-pub use laws::counting_keeps_lawful;
+pub use laws::{counting_keeps_lawful, plain_answers_are_lawful};
 pub use numbers::{count_number, small_number};
 pub use refusals::{Expected, Refusal};
-pub use texts::{give_made, reserve_text};
+pub use texts::{give_made, give_made_after, reserve_text, reserve_told};
 pub use work::{Work, texts_length};
