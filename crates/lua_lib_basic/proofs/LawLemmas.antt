@@ -1,5 +1,5 @@
--- Each function of the library leaves a heap as it may.
-use Rattle.std.proofs.Common.{ℕ, zero, suc, ◌<◌, Bool, true, false, List, [], ◌∷◌, length, drop, get_or, Option, None, Some, IfSome, Result, Ok, Err, All, if◌then◌else◌, arith, ℤ, pos, ◌+ℤ◌}
+-- Each function of this group leaves a heap as it may.
+use Rattle.std.proofs.Common.{ℕ, zero, suc, ◌<◌, ◌≤◌, Bool, true, false, List, [], ◌∷◌, length, drop, get_or, Option, None, Some, IfSome, Result, Ok, Err, All, if◌then◌else◌, arith, ℤ, pos, ◌+ℤ◌}
 use Rattle.std.proofs.lemmas.List.Elements.{All-nil, All-cons, All-map, All-drop}
 use Rattle.std.specs.List.{range_with_len}
 use Rattle.std.specs.Ordering.{int_eq}
@@ -22,24 +22,22 @@ use Rattle.lua_operators.specs.TypeNames.{type_name}
 use Rattle.lua_lib_base.specs.Arguments.{argument, any_at, table_at, table_or_nil_at, number_at, number_or_at, text_at}
 use Rattle.lua_lib_base.specs.Results.{gives, with_argument}
 use Rattle.lua_lib_base.specs.Texts.{made_text}
-use Rattle.lua_lib_base.specs.Lawful.{IsLawfulResult, CountingKeepsLawful}
+use Rattle.lua_lib_base.specs.Lawful.{IsLawfulResult, IsLawfulGroup}
+use Rattle.lua_lib_base.specs.RunModules.{modules_before}
+use Rattle.lua_lib_base.proofs.KnownLemmas.{Setup, NamedPair, any_known, table_known, meta_known, table_named, next_named, value_known}
+use Rattle.lua_lib_base.proofs.WriteLemmas.{kept, with_lawful, made_lawful}
 use Rattle.lua_lib_basic.specs.declared.functions.BasicFunction.{BasicFunction}
 use Rattle.lua_lib_basic.specs.declared.functions.BasicFunction.TheVariants as basic
-use Rattle.lua_lib_basic.specs.declared.functions.PreludeFunction.{PreludeFunction}
-use Rattle.lua_lib_basic.specs.declared.functions.PreludeFunction.TheVariants as prelude
-use Rattle.lua_lib_basic.specs.declared.functions.Function.{Function}
-use Rattle.lua_lib_basic.specs.declared.functions.Function.TheVariants.{Basic, Prelude}
-use Rattle.lua_lib_basic.specs.Functions.{function_at}
 use Rattle.lua_lib_basic.specs.Metatables.{metatable_of, protection, shown, getmetatable, setmetatable}
 use Rattle.lua_lib_basic.specs.Traversal.{values_of, next_values, or_nil, next, pairs, ipairs, element_within, element, ipairs_step}
 use Rattle.lua_lib_basic.specs.Raw.{rawequal, rawget, rawset}
 use Rattle.lua_lib_basic.specs.Lists.{asks_count, passed, selected_after, selected, select, elements, count_between, unpack}
 use Rattle.lua_lib_basic.specs.Conversions.{number_or_nil, as_base, numeral, in_base, tonumber, type_}
-use Rattle.lua_lib_basic.specs.Modules.{is_text, module_name, modules_before}
-use Rattle.lua_lib_basic.specs.Meaning.{basic_result, prelude_result, call_result, call_name}
-use Rattle.lua_lib_basic.specs.Laws.{LibraryIsLawful}
-use Rattle.lua_lib_basic.proofs.KnownLemmas.{Setup, NamedPair, any_known, table_known, meta_known, table_named, next_named, value_known}
-use Rattle.lua_lib_basic.proofs.WriteLemmas.{kept, with_lawful, made_lawful, set_raw_lawful, set_metatable_lawful}
+use Rattle.lua_lib_basic.specs.Modules.{is_text, module_name}
+use Rattle.lua_lib_basic.specs.Meaning.{basic_result}
+use Rattle.lua_lib_basic.specs.Laws.{BasicIsLawful}
+use Rattle.lua_lib_basic.proofs.WriteLemmas.{set_raw_lawful, set_metatable_lawful}
+use Rattle.lua_lib_basic.proofs.TypeLemmas.{basic_keeps}
 
 -- one value
 one : (bound : ℕ) (heap : Heap) (value : Value) → IsKnown bound heap value → All (IsKnown bound heap) (value ∷ [])
@@ -106,15 +104,15 @@ next_known bound heap args t key s = by (next_pair (calls.pairs_of heap t) key) 
 next_lawful : (bound : ℕ) (heap : Heap) (args : List Value) → Setup bound heap args → IsLawfulResult bound heap (next args heap)
 next_lawful bound heap args s = with_lawful bound heap args (table_at args 1) _ s (λ t e. (kept bound heap args s, next_known bound heap args t (or_nil (argument args 2)) s))
 
-pairs_lawful : (bound : ℕ) (heap : Heap) (args : List Value) → Setup bound heap args → IsLawfulResult bound heap (pairs args heap)
-pairs_lawful bound heap args s =
+pairs_lawful : (bound : ℕ) (heap : Heap) (args : List Value) → 184 ≤ bound → Setup bound heap args → IsLawfulResult bound heap (pairs args heap)
+pairs_lawful bound heap args natives s =
     with_lawful bound heap args (table_at args 1) _ s (λ t e.
-    (kept bound heap args s, three bound heap (Native 131) (Table t) Nil (tt, omega (arith, s.natives)) (table_known bound heap args 1 t s e, tt) (tt, tt)))
+    (kept bound heap args s, three bound heap (Native 131) (Table t) Nil (tt, omega (arith, natives)) (table_known bound heap args 1 t s e, tt) (tt, tt)))
 
-ipairs_lawful : (bound : ℕ) (heap : Heap) (args : List Value) → Setup bound heap args → IsLawfulResult bound heap (ipairs args heap)
-ipairs_lawful bound heap args s =
+ipairs_lawful : (bound : ℕ) (heap : Heap) (args : List Value) → 184 ≤ bound → Setup bound heap args → IsLawfulResult bound heap (ipairs args heap)
+ipairs_lawful bound heap args natives s =
     with_lawful bound heap args (table_at args 1) _ s (λ t e.
-    (kept bound heap args s, three bound heap (Native 174) (Table t) (number 0) (tt, omega (arith, s.natives)) (table_known bound heap args 1 t s e, tt) (tt, tt)))
+    (kept bound heap args s, three bound heap (Native 174) (Table t) (number 0) (tt, omega (arith, natives)) (table_known bound heap args 1 t s e, tt) (tt, tt)))
 
 element_known : (bound : ℕ) (heap : Heap) (args : List Value) (t : ℕ) (i : ℤ) → Setup bound heap args → All (IsKnown bound heap) (element heap t i)
 element_known bound heap args t i s = within (within_range (i +ℤ pos 1))
@@ -184,32 +182,27 @@ modules_known : (bound : ℕ) (heap : Heap) (globals : ℕ) → globals < length
 modules_known bound heap zero there = (tt, tt)
 modules_known bound heap (suc t) there = (omega (arith, there), tt)
 
-basic_lawful : (bound : ℕ) (heap : Heap) (args : List Value) (function : BasicFunction) → Setup bound heap args → IsLawfulResult bound heap (basic_result function args heap)
-basic_lawful bound heap args basic.GetMetatable s = getmetatable_lawful bound heap args s
-basic_lawful bound heap args basic.SetMetatable s = setmetatable_lawful bound heap args s
-basic_lawful bound heap args basic.Ipairs s = ipairs_lawful bound heap args s
-basic_lawful bound heap args basic.Next s = next_lawful bound heap args s
-basic_lawful bound heap args basic.Pairs s = pairs_lawful bound heap args s
-basic_lawful bound heap args basic.RawEqual s = rawequal_lawful bound heap args s
-basic_lawful bound heap args basic.RawGet s = rawget_lawful bound heap args s
-basic_lawful bound heap args basic.RawSet s = rawset_lawful bound heap args s
-basic_lawful bound heap args basic.Select s = select_lawful bound heap args s
-basic_lawful bound heap args basic.ToNumber s = tonumber_lawful bound heap args s
-basic_lawful bound heap args basic.TypeName s = type_lawful bound heap args s
-basic_lawful bound heap args basic.Unpack s = unpack_lawful bound heap args s
+basic_lawful : (bound : ℕ) → 184 ≤ bound → (heap : Heap) (args : List Value) (function : BasicFunction) → Setup bound heap args → IsLawfulResult bound heap (basic_result function args heap)
+basic_lawful bound natives heap args basic.GetMetatable s = getmetatable_lawful bound heap args s
+basic_lawful bound natives heap args basic.SetMetatable s = setmetatable_lawful bound heap args s
+basic_lawful bound natives heap args basic.Ipairs s = ipairs_lawful bound heap args natives s
+basic_lawful bound natives heap args basic.Next s = next_lawful bound heap args s
+basic_lawful bound natives heap args basic.Pairs s = pairs_lawful bound heap args natives s
+basic_lawful bound natives heap args basic.RawEqual s = rawequal_lawful bound heap args s
+basic_lawful bound natives heap args basic.RawGet s = rawget_lawful bound heap args s
+basic_lawful bound natives heap args basic.RawSet s = rawset_lawful bound heap args s
+basic_lawful bound natives heap args basic.Select s = select_lawful bound heap args s
+basic_lawful bound natives heap args basic.ToNumber s = tonumber_lawful bound heap args s
+basic_lawful bound natives heap args basic.TypeName s = type_lawful bound heap args s
+basic_lawful bound natives heap args basic.Unpack s = unpack_lawful bound heap args s
+basic_lawful bound natives heap args basic.IpairsStep s = step_lawful bound heap args s
+basic_lawful bound natives heap args basic.Globals s = (kept bound heap args s, one bound heap (Table heap.globals) (s.fits.globals, tt))
+basic_lawful bound natives heap args basic.ModuleName s = name_lawful bound heap args s
+basic_lawful bound natives heap args basic.RunModules s = (kept bound heap args s, one bound heap (modules_before heap.globals) (modules_known bound heap heap.globals s.fits.globals))
 
-prelude_lawful : (bound : ℕ) (heap : Heap) (args : List Value) (function : PreludeFunction) → Setup bound heap args → IsLawfulResult bound heap (prelude_result function args heap)
-prelude_lawful bound heap args prelude.IpairsStep s = step_lawful bound heap args s
-prelude_lawful bound heap args prelude.Globals s = (kept bound heap args s, one bound heap (Table heap.globals) (s.fits.globals, tt))
-prelude_lawful bound heap args prelude.ModuleName s = name_lawful bound heap args s
-prelude_lawful bound heap args prelude.RunModules s = (kept bound heap args s, one bound heap (modules_before heap.globals) (modules_known bound heap heap.globals s.fits.globals))
+group_lawful : ReadsFit → WritesKeepFitting → (bound : ℕ) → 184 ≤ bound → IsLawfulGroup bound basic_result
+group_lawful reads writes bound natives function args heap fits names known =
+    basic_lawful bound natives heap args function (record { fits = fits; names = names; known = known; reads = reads; writes = writes })
 
-call_lawful : (bound : ℕ) (heap : Heap) (args : List Value) (o : Option Function) → Setup bound heap args → IsLawfulResult bound heap (call_result o args heap)
-call_lawful bound heap args (Some (Basic function)) s = basic_lawful bound heap args function s
-call_lawful bound heap args (Some (Prelude function)) s = prelude_lawful bound heap args function s
-call_lawful bound heap args None s = tt
-
-pub library_lawful : CountingKeepsLawful → ReadsFit → WritesKeepFitting → LibraryIsLawful
-library_lawful keeps reads writes bound natives number args heap below fits names known =
-    keeps bound (call_name (function_at number)) args heap (call_result (function_at number) args heap)
-    (call_lawful bound heap args (function_at number) (record { natives = natives; fits = fits; names = names; known = known; reads = reads; writes = writes }))
+pub basic_is_lawful : ReadsFit → WritesKeepFitting → BasicIsLawful
+basic_is_lawful reads writes = record { lawful = group_lawful reads writes; keeps_types = basic_keeps }

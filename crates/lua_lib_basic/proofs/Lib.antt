@@ -1,5 +1,3 @@
-mod StoreLemmas
-pub mod KnownLemmas
 mod WriteLemmas
-mod LawLemmas
 mod TypeLemmas
+mod LawLemmas

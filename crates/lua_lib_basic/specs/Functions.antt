@@ -1,14 +1,10 @@
--- The functions of the library that are built, with their numbers and names.
+-- The functions of this group, with their places and names.
 use Rattle.std.specs.Prelude.{ℕ, nat_eq, List, codes, Option, Some, None, if◌then◌else◌}
 use Rattle.lua_lib_basic.specs.declared.functions.BasicFunction.{BasicFunction}
 use Rattle.lua_lib_basic.specs.declared.functions.BasicFunction.TheVariants.{GetMetatable, SetMetatable, Ipairs, Next, Pairs, RawEqual, RawGet}
 use Rattle.lua_lib_basic.specs.declared.functions.BasicFunction.TheVariants.{RawSet, Select, ToNumber, TypeName, Unpack}
-use Rattle.lua_lib_basic.specs.declared.functions.PreludeFunction.{PreludeFunction}
-use Rattle.lua_lib_basic.specs.declared.functions.PreludeFunction.TheVariants.{IpairsStep, Globals, ModuleName, RunModules}
-use Rattle.lua_lib_basic.specs.declared.functions.Function.{Function}
-use Rattle.lua_lib_basic.specs.declared.functions.Function.TheVariants.{Basic, Prelude}
+use Rattle.lua_lib_basic.specs.declared.functions.BasicFunction.TheVariants.{IpairsStep, Globals, ModuleName, RunModules}
 
--- the basic function of a number of the library
 abbrev pub basic_at : ℕ → Option BasicFunction
 basic_at n =
     if nat_eq n 0 then Some GetMetatable
@@ -23,9 +19,13 @@ basic_at n =
     else if nat_eq n 9 then Some ToNumber
     else if nat_eq n 10 then Some TypeName
     else if nat_eq n 11 then Some Unpack
+    else if nat_eq n 12 then Some IpairsStep
+    else if nat_eq n 13 then Some Globals
+    else if nat_eq n 14 then Some ModuleName
+    else if nat_eq n 15 then Some RunModules
     else None
 
--- its name, as faults have it
+-- as faults have it: for those that the library's own text calls, the name of the function for which it does
 abbrev pub basic_name : BasicFunction → List ℕ
 basic_name GetMetatable = codes "getmetatable"
 basic_name SetMetatable = codes "setmetatable"
@@ -39,35 +39,7 @@ basic_name Select = codes "select"
 basic_name ToNumber = codes "tonumber"
 basic_name TypeName = codes "type"
 basic_name Unpack = codes "unpack"
-
--- the function that the library's own texts alone call
-abbrev pub prelude_at : ℕ → Option PreludeFunction
-prelude_at n =
-    if nat_eq n 46 then Some IpairsStep
-    else if nat_eq n 53 then Some Globals
-    else if nat_eq n 54 then Some ModuleName
-    else if nat_eq n 55 then Some RunModules
-    else None
-
--- the name of the function for which it is called
-abbrev pub prelude_name : PreludeFunction → List ℕ
-prelude_name IpairsStep = codes "ipairs"
-prelude_name Globals = codes "_G"
-prelude_name ModuleName = codes "require"
-prelude_name RunModules = codes "require"
-
--- the function of a number, none where it isn't built
-abbrev pub prelude_function : Option PreludeFunction → Option Function
-prelude_function (Some function) = Some (Prelude function)
-prelude_function None = None
-
-abbrev pub basic_or : Option BasicFunction → Option Function → Option Function
-basic_or (Some function) other = Some (Basic function)
-basic_or None other = other
-
-abbrev pub function_at : ℕ → Option Function
-function_at n = basic_or (basic_at n) (prelude_function (prelude_at n))
-
-abbrev pub function_name : Function → List ℕ
-function_name (Basic function) = basic_name function
-function_name (Prelude function) = prelude_name function
+basic_name IpairsStep = codes "ipairs"
+basic_name Globals = codes "_G"
+basic_name ModuleName = codes "require"
+basic_name RunModules = codes "require"

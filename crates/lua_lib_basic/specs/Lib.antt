@@ -7,4 +7,3 @@ pub mod Modules
 pub mod Functions
 pub mod Meaning
 pub mod Laws
-pub mod OwnText

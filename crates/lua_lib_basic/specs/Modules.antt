@@ -1,11 +1,12 @@
 -- What `_G` and `require` (Lua 5.1 Reference Manual, 5.1 and 5.3) ask of the host.
-use Rattle.std.specs.Prelude.{ℕ, zero, suc, Bool, true, false, List, [], ◌∷◌, Option, Some, if◌then◌else◌}
+use Rattle.std.specs.Prelude.{Bool, true, false, List, [], ◌∷◌, Option, Some, if◌then◌else◌}
 use Rattle.lua_values.specs.declared.values.Value.{Value}
-use Rattle.lua_values.specs.declared.values.Value.TheVariants.{Nil, Table, Text}
+use Rattle.lua_values.specs.declared.values.Value.TheVariants.{Table, Text}
 use Rattle.lua_values.specs.Heap.{Heap}
 use Rattle.lua_lib_base.specs.Arguments.{argument, text_at}
 use Rattle.lua_lib_base.specs.Results.{LibraryResult, gives, with_argument}
 use Rattle.lua_lib_base.specs.Texts.{made_text}
+use Rattle.lua_lib_base.specs.RunModules.{modules_before}
 
 -- the present global table
 abbrev pub globals : Heap → LibraryResult
@@ -20,12 +21,6 @@ abbrev pub module_name : List Value → Heap → LibraryResult
 module_name args heap =
     with_argument (text_at args 1) heap (λ text. if is_text (argument args 1) then gives (Text text ∷ []) heap else made_text heap text)
 
--- the table before a global table, and nil before the store's first one
-abbrev pub modules_before : ℕ → Value
-modules_before zero = Nil
-modules_before (suc t) = Table t
-
--- The table of the modules that a run has required. A run has a global table of its own, before which this one was made; before
--- any run the global table is the store's first one, and there is none.
+-- the table of the modules that a run has required, nil before any run
 abbrev pub run_modules : Heap → LibraryResult
 run_modules heap = gives (modules_before heap.globals ∷ []) heap

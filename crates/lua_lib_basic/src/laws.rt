@@ -1,20 +1,13 @@
-//! Laws of the definitions, each the contract of a function.
+//! The law of the group, as the contract of a function.
 
-ghost use Rattle.lua_lib_basic.specs.Laws.{LibraryIsLawful, OnlyOneSharesMetatables};
+ghost use Rattle.lua_lib_basic.specs.Laws.{BasicIsLawful};
 
-use lua_lib_base::counting_keeps_lawful;
 use lua_values::{reads_fit, writes_keep_fitting};
 
-/// The library is lawful where a program may call the natives 0 to 183.
-pub fn library_is_lawful()
-    ensures { LibraryIsLawful }
+/// Each function leaves a heap as a library may, where a program may call the natives 0 to 183, and the metatables of types.
+pub fn basic_is_lawful()
+    ensures { BasicIsLawful }
 {
-    counting_keeps_lawful();
     reads_fit();
     writes_keep_fitting();
 }
-
-/// The metatables of types are written by one function alone, which the library's own texts call.
-pub fn only_one_shares_metatables()
-    ensures { OnlyOneSharesMetatables }
-{}

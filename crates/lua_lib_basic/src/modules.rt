@@ -3,7 +3,8 @@
 ghost use Rattle.std.specs.Prelude.{◌≡◌};
 ghost use Rattle.lua_lib_base.specs.Arguments.{argument};
 ghost use Rattle.lua_lib_base.specs.Results.{IsOutcome};
-ghost use Rattle.lua_lib_basic.specs.Modules.{globals, is_text, module_name, modules_before, run_modules};
+ghost use Rattle.lua_lib_base.specs.RunModules.{modules_before};
+ghost use Rattle.lua_lib_basic.specs.Modules.{globals, is_text, module_name, run_modules};
 
 use lua_lib_base::{Args, Given, Unanswered, give_made};
 use lua_values::{Store, Value};

@@ -18,7 +18,7 @@ use Rattle.lua_values.specs.Laws.{Keeps, WritesKeepFitting}
 use Rattle.lua_values.specs.StoreCalls as calls
 use Rattle.lua_operators.specs.declared.events.Event.TheVariants.{Index}
 use Rattle.lua_operators.specs.Events.{key_of}
-use Rattle.lua_lib_basic.proofs.KnownLemmas.{table_named, with_value_named}
+use Rattle.lua_lib_base.proofs.KnownLemmas.{table_named, with_value_named}
 use Rattle.lua_modules.specs.Sets.{Lists, IsOutermost, IsChunk}
 use Rattle.lua_modules.specs.declared.sets.Module.{Module}
 use Rattle.lua_meaning.specs.Life.{Outcome, Done, Failure, Asks, OutOfSteps, Unbegun}

@@ -7,7 +7,7 @@ use Rattle.lua_values.specs.Heap.{Heap}
 use Rattle.lua_values.specs.StoreCalls.{table_of, pairs_of, set_cause, frozen_cause, frozen}
 use Rattle.lua_operators.specs.declared.events.Event.TheVariants.{Index}
 use Rattle.lua_operators.specs.Events.{key_of}
-use Rattle.lua_lib_basic.specs.Modules.{modules_before}
+use Rattle.lua_lib_base.specs.RunModules.{modules_before}
 use Rattle.lua_site.specs.declared.faults.LuaSiteFault.{LuaSiteFault}
 use Rattle.lua_site.specs.declared.faults.LuaSiteFault.TheVariants.{Init, Memory}
 use Rattle.lua_site.specs.declared.sites.LuaSite.{LuaSite}

@@ -4,7 +4,7 @@ mod limits;
 mod tables;
 
 use crate::values::{Wrong, id, text_value, value, values, whether};
-use lua_lib_basic::Library;
+use lua_lib::Library;
 use lua_values::{Both, NativeOut, Natives, Store, TypeKind, Value};
 use std::alloc::{AllocError, Global};
 use std::process::Abort;

@@ -20,8 +20,8 @@ use Rattle.lua_meaning_laws.specs.Standing.{Stands, Known, StandsAfter, LeavesSt
 use Rattle.lua_meaning_laws.specs.Lives.{CanBegin, ComesAfter, OutsideKeeps, LivesKeepStanding}
 use Rattle.lua_machine.specs.Finishes.{Finish}
 use Rattle.lua_lib_base.specs.Texts.{text_cause, with_text}
-use Rattle.lua_lib_basic.specs.Meaning.{library_count, library_meaning}
-use Rattle.lua_lib_basic.specs.Laws.{LibraryIsLawful}
+use Rattle.lua_lib.specs.Meaning.{library_count, library_meaning}
+use Rattle.lua_lib.specs.Laws.{LibraryIsLawful}
 use Rattle.ngx_calls.specs.Natives.{ngx_count, ngx_meaning}
 use Rattle.ngx_calls.specs.declared.answers.Given.{Given}
 use Rattle.ngx_calls.specs.declared.answers.Given.TheVariants as given

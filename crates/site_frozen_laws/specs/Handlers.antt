@@ -14,7 +14,7 @@ use Rattle.lua_meaning.specs.Setting.{Setting}
 use Rattle.lua_meaning.specs.Over.{native_count}
 use Rattle.lua_meaning_laws.specs.Lives.{CanBegin, OutsideKeeps}
 use Rattle.lua_machine.specs.Finishes.{Finish}
-use Rattle.lua_lib_basic.specs.Meaning.{library_count, library_meaning}
+use Rattle.lua_lib.specs.Meaning.{library_count, library_meaning}
 use Rattle.ngx_calls.specs.Natives.{ngx_count, ngx_meaning}
 use Rattle.request_api.specs.declared.requests.Req.{Req}
 use Rattle.run_threads.specs.Handlers.{Running, Answered, with_store, answers_call, resume_with, begun}

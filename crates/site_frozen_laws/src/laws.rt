@@ -5,7 +5,7 @@ ghost use Rattle.site_frozen_laws.specs.Threads.{KeepStanding};
 ghost use Rattle.site_frozen_laws.specs.Sites.{StartedSitesStand, StartsFreezeInit, RunsLeaveInit};
 ghost use Rattle.site_frozen_laws.specs.Handlers.{SoundSetsStand, HandlersKeep, HandlersLeaveInit};
 
-use lua_lib_basic::library_is_lawful;
+use lua_lib::library_is_lawful;
 use lua_meaning_laws::{calls_keep_standing, lives_keep_standing, resumes_keep_standing};
 use lua_site::{init_is_frozen, starts_stand};
 use lua_values::{both_are_lawful, writes_keep_fitting};

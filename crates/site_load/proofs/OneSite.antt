@@ -17,7 +17,7 @@ use Rattle.lua_values.specs.Heap.{StoreView}
 use Rattle.lua_run.specs.Answers.{Site}
 use Rattle.lua_run.specs.Views.{handler_at}
 use Rattle.lua_site.specs.Starting.{Start, started}
-use Rattle.lua_lib_basic.specs.OwnText.{library_text}
+use Rattle.lua_lib.specs.OwnText.{library_text}
 use Rattle.lua_modules.specs.TextsOfFiles.{Holds, IsTooLong}
 use Rattle.lua_modules.specs.declared.file_faults.ModuleFileFault.{ModuleFileFault}
 use Rattle.lua_modules.specs.declared.file_faults.ModuleFileFault.TheVariants as reading

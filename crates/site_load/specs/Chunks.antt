@@ -5,7 +5,7 @@ use Rattle.conf.specs.declared.sites.Block.{Block}
 use Rattle.lua_linking.specs.Joining.{IsJoined}
 use Rattle.lua_modules.specs.Sets.{Adds, AddsBlock, lists_of, next_function, of_file, with_block}
 use Rattle.lua_modules.specs.declared.sets.ModuleSet.{ModuleSet}
-use Rattle.lua_lib_basic.specs.OwnText.{library_text}
+use Rattle.lua_lib.specs.OwnText.{library_text}
 use Rattle.ngx_calls.specs.OwnText.{ngx_text}
 
 -- a set without chunks

@@ -13,7 +13,7 @@ use Rattle.lua_modules.specs.TextsOfFiles.{Holds, IsTooLong}
 use Rattle.lua_modules.specs.Reading.{ReadsModules, Stops, start}
 use Rattle.lua_modules.specs.declared.file_faults.ModuleFileFault.{ModuleFileFault}
 use Rattle.lua_modules.specs.declared.file_faults.ModuleFileFault.TheVariants as reading
-use Rattle.lua_lib_basic.specs.OwnText.{library_text}
+use Rattle.lua_lib.specs.OwnText.{library_text}
 use Rattle.ngx_calls.specs.OwnText.{ngx_text}
 use Rattle.site_check.specs.Sites.{IsRead, IsSiteFault}
 use Rattle.site_check.specs.declared.faults.CheckFault.{CheckFault}

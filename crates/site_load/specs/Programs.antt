@@ -7,7 +7,7 @@ use Rattle.lua_meaning.specs.Life.{life}
 use Rattle.lua_meaning.specs.Over.{native_count}
 use Rattle.lua_meaning.specs.Setting.{Setting}
 use Rattle.lua_machine.specs.Finishes.{Finish}
-use Rattle.lua_lib_basic.specs.Meaning.{library_count, library_meaning}
+use Rattle.lua_lib.specs.Meaning.{library_count, library_meaning}
 use Rattle.ngx_calls.specs.Natives.{ngx_count, ngx_meaning}
 
 abbrev pub setting_of : Program → Setting

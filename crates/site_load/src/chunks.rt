@@ -36,7 +36,7 @@ fn built_in_set(alloc: Global) -> Result<ModuleSet, SiteFault>
     ensures err { IfErr result IsBuiltInFault }
 {
     let mut set = ModuleSet::new(alloc);
-    add_built_in(alloc, &mut set, lua_lib_basic::prelude())?;
+    add_built_in(alloc, &mut set, lua_lib::prelude())?;
     add_built_in(alloc, &mut set, ngx_calls::prelude())?;
     Ok(set)
 }

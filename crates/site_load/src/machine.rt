@@ -3,7 +3,7 @@
 ghost use Rattle.std.specs.Prelude.{◌≡◌};
 
 use lua_ast::Program;
-use lua_lib_basic::Library;
+use lua_lib::Library;
 use lua_threads::Loaded;
 use lua_values::Both;
 use ngx_calls::NgxNatives;

@@ -3,7 +3,7 @@ use super::programs::{program, put, see_value, set_natives};
 use crate::values::expect;
 use http_base::Fields;
 use http_in::{BodyKind, Head};
-use lua_lib_basic::Library;
+use lua_lib::Library;
 use lua_threads::Loaded;
 use lua_values::{Both, Store, StoreFault, Value};
 use ngx_calls::NgxNatives;

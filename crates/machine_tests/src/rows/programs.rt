@@ -3,7 +3,7 @@ use super::WaitAndId;
 use crate::values::expect;
 use lua_ast::Program;
 use lua_lexer::lex;
-use lua_lib_basic::Library;
+use lua_lib::Library;
 use lua_machine::{Machine, Op, Slice};
 use lua_meaning::Resumed;
 use lua_parser::parse;

@@ -3,7 +3,7 @@ ghost use Rattle.std.specs.Prelude.{◌<◌, ◌≤◌, length, IfSome};
 
 use super::programs::{put, see_call, without_counts};
 use crate::values::expect;
-use lua_lib_basic::Library;
+use lua_lib::Library;
 use lua_modules::{Chunks, ModuleFault, ModuleSet};
 use lua_site::{LuaSite, LuaSiteFault, start_lua};
 use lua_threads::Loaded;
@@ -73,7 +73,7 @@ fn set_of(
     text: &str,
 ) -> Result<ModuleSet, ModuleFault> {
     let mut set = ModuleSet::new(alloc);
-    add_prelude(alloc, &mut set, lua_lib_basic::prelude())?;
+    add_prelude(alloc, &mut set, lua_lib::prelude())?;
     add_prelude(alloc, &mut set, ngx_calls::prelude())?;
     add_prelude(alloc, &mut set, prelude.as_bytes())?;
     add_modules(alloc, &mut set)?;

@@ -2,7 +2,7 @@ use Rattle.std.proofs.Common.{[], ◌∷◌}
 use Rattle.lua_values.specs.declared.values.Value.TheVariants.{Table}
 use Rattle.lua_values.specs.StoreCalls.{set_cause, with_pair}
 use Rattle.lua_lib_base.specs.Work.{no_work}
-use Rattle.lua_lib_basic.proofs.StoreLemmas.{refused_by_store}
+use Rattle.lua_lib_base.proofs.StoreLemmas.{refused_by_store}
 use Rattle.lua_lib_basic.proofs.raw.set_raw.Goals as goal
 
 pub returns-in_err-set : goal.returns-in_err-set

@@ -1,7 +1,7 @@
 //! The library's own text in Lua: what it names for programs, and its functions that call Lua functions.
 
 ghost use Rattle.std.specs.Prelude.{◌≡◌};
-ghost use Rattle.lua_lib_basic.specs.OwnText.{library_text};
+ghost use Rattle.lua_lib.specs.OwnText.{library_text};
 
 /// The chunk is called with the table of the host's functions, where each stands at the number after its own. `require` (Lua 5.1
 /// Reference Manual, 5.3) finds the closures of modules there too, by their names, and at the closure of a built-in one what this is

@@ -2,11 +2,9 @@
 
 ghost use Rattle.std.specs.Prelude.{◌≡◌};
 ghost use Rattle.lua_lib_base.specs.Results.{IsOutcome};
-ghost use Rattle.lua_lib_basic.specs.Functions.{function_at};
-ghost use Rattle.lua_lib_basic.specs.Meaning.{call_result, call_name};
+ghost use Rattle.lua_lib.specs.Meaning.{call_result, call_name};
 
-use crate::dispatch::call_function;
-use crate::functions::Function;
+use crate::Function;
 use lua_lib_base::{Args, Given, Unanswered, answer};
 use lua_values::{NativeOut, Natives, Store, Value};
 use std::alloc::Global;
@@ -16,7 +14,7 @@ use std::alloc::Global;
 pub struct Library;
 
 impl Natives for Library {
-    ghost use Rattle.lua_lib_basic.specs.Meaning.{library_count, library_meaning};
+    ghost use Rattle.lua_lib.specs.Meaning.{library_count, library_meaning};
 
     ghost size = { λ _. library_count };
 
@@ -57,7 +55,7 @@ fn outcome_of(
     ensures { IsOutcome (call_result function args.now.values.now store.old.heap) store.old result store.new }
 {
     match function {
-        Some(function) => call_function(alloc, function, args, store),
+        Some(function) => function.call(alloc, args, store),
         None => Err(Unanswered::Left),
     }
 }

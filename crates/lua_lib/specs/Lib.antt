@@ -1,0 +1,4 @@
+pub mod Functions
+pub mod Meaning
+pub mod Laws
+pub mod OwnText
