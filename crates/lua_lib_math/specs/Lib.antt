@@ -1,0 +1,4 @@
+pub mod Numbers
+pub mod Extremes
+pub mod Functions
+pub mod Meaning
