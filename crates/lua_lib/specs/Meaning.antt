@@ -3,14 +3,17 @@ use Rattle.std.specs.Prelude.{ℕ, List, [], Option, Some, None}
 use Rattle.lua_values.specs.declared.values.Value.{Value}
 use Rattle.lua_values.specs.Heap.{Heap}
 use Rattle.lua_values.specs.NativeCalls.{Meaning}
+use Rattle.lua_lib_base.specs.Answers.{plainly}
 use Rattle.lua_lib_base.specs.Results.{LibraryResult, Left, counted}
 use Rattle.lua_lib_basic.specs.Meaning.{basic_result}
+use Rattle.lua_lib_math.specs.Meaning.{math_result}
 use Rattle.lua_lib.specs.declared.functions.Function.{Function}
-use Rattle.lua_lib.specs.declared.functions.Function.TheVariants.{Basic}
+use Rattle.lua_lib.specs.declared.functions.Function.TheVariants.{Basic, Math}
 use Rattle.lua_lib.specs.Functions.{function_at, function_name}
 
 abbrev pub function_result : Function → List Value → Heap → LibraryResult
 function_result (Basic function) args heap = basic_result function args heap
+function_result (Math function) args heap = plainly (math_result function args) heap
 
 -- how many numbers the library has, whatever of them is built
 abbrev pub library_count : ℕ

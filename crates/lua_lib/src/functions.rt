@@ -3,23 +3,26 @@
 ghost use Rattle.std.specs.Prelude.{◌≡◌};
 ghost use Rattle.lua_lib_base.specs.Results.{IsOutcome};
 ghost use Rattle.lua_lib_basic.specs.Functions.{basic_at};
-ghost use Rattle.lua_lib.specs.Functions.{in_basic, function_at, function_name};
+ghost use Rattle.lua_lib_math.specs.Functions.{math_at};
+ghost use Rattle.lua_lib.specs.Functions.{in_basic, in_math, function_at, function_name};
 ghost use Rattle.lua_lib.specs.Meaning.{function_result};
 
 use lua_lib_base::{Args, Given, Unanswered};
 use lua_lib_basic::{BasicFunction, call_basic};
+use lua_lib_math::{MathFunction, call_math};
 use lua_values::Store;
 use std::alloc::Global;
 
 // Numbers of the library never change, and as natives of a site they begin at 128. Those of functions that aren't built yet: 12 to 23 byte, char, find,
-// format, gsub with a text, len, lower, match, rep, reverse, sub, upper; 24 to 28 concat, insert, maxn, remove, sort; 29 to 35 abs, ceil, floor, fmod, max,
-// min, pow; 36 to 41 escape_uri, unescape_uri, encode_args, decode_args, encode_base64, decode_base64; 42 to 45 md5, md5_bin, sha1_bin, http_time; 47 and 48
+// format, gsub with a text, len, lower, match, rep, reverse, sub, upper; 24 to 28 concat, insert, maxn, remove, sort;
+// 36 to 41 escape_uri, unescape_uri, encode_args, decode_args, encode_base64, decode_base64; 42 to 45 md5, md5_bin, sha1_bin, http_time; 47 and 48
 // of gmatch; 49 to 51 of gsub with a function or a table; 52 gives a type of values its metatable.
 
 /// A function of the library, by its group.
 #[derive(Clone, Copy)]
 pub enum Function {
     Basic(BasicFunction),
+    Math(MathFunction),
 }
 
 impl Function {
@@ -29,6 +32,7 @@ impl Function {
     {
         match number {
             0..=11 => basic(number),
+            29..=35 => math(number - 29),
             46 => basic(12),
             53..=55 => basic(number - 40),
             _ => None,
@@ -41,6 +45,7 @@ impl Function {
     {
         match self {
             Function::Basic(function) => function.name(),
+            Function::Math(function) => function.name(),
         }
     }
 
@@ -55,6 +60,7 @@ impl Function {
     {
         match self {
             Function::Basic(function) => call_basic(alloc, function, args, store),
+            Function::Math(function) => call_math(alloc, function, args),
         }
     }
 }
@@ -64,4 +70,11 @@ fn basic(place: u32) -> Option<Function>
     ensures { result ≡ in_basic (basic_at place) }
 {
     Some(Function::Basic(BasicFunction::at(place)?))
+}
+
+/// The function of numbers at a place of its group.
+fn math(place: u32) -> Option<Function>
+    ensures { result ≡ in_math (math_at place) }
+{
+    Some(Function::Math(MathFunction::at(place)?))
 }
