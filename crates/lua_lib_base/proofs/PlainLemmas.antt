@@ -26,7 +26,7 @@ unwritten bound heap fits names = record {
 }
 
 -- units alone are written
-units_written : (bound : ℕ) (heap : Heap) (n : ℕ) → WritesKeepFitting → FitsItself heap → HeapNamesBelow bound heap → LeavesHeap bound heap (record heap { units = n })
+pub units_written : (bound : ℕ) (heap : Heap) (n : ℕ) → WritesKeepFitting → FitsItself heap → HeapNamesBelow bound heap → LeavesHeap bound heap (record heap { units = n })
 units_written bound heap n writes fits names =
     let keeps : Keeps heap (record heap { units = n }) = writes.add_units heap n fits in record {
       frozen = record { base = refl; tables = refl; cells = refl; closures = refl; no_shorter = keeps.1 };

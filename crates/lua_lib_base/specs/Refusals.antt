@@ -14,6 +14,7 @@ expected_text expected.Value = codes "value"
 expected_text expected.Number = codes "number"
 expected_text expected.String = codes "string"
 expected_text expected.Table = codes "table"
+expected_text expected.Nil = codes "nil"
 expected_text expected.NilOrTable = codes "nil or table"
 
 abbrev pub found_text : Option LuaType → List ℕ

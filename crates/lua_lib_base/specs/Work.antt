@@ -7,6 +7,10 @@ use Rattle.lua_lib_base.specs.declared.work.Work.{Work}
 abbrev pub no_work : Work
 no_work = record { taken = 0; made = 0; tests = 0; given = 0 }
 
+-- n bytes of text are taken from a table
+abbrev pub taking : ℕ → Work
+taking n = record { taken = n; made = 0; tests = 0; given = 0 }
+
 -- n bytes of text are made
 abbrev pub making : ℕ → Work
 making n = record { taken = 0; made = n; tests = 0; given = 0 }

@@ -16,6 +16,7 @@ pub enum Expected {
     Number,
     String,
     Table,
+    Nil,
     NilOrTable,
 }
 
@@ -29,6 +30,7 @@ impl Expected {
             Expected::Number => b"number",
             Expected::String => b"string",
             Expected::Table => b"table",
+            Expected::Nil => b"nil",
             Expected::NilOrTable => b"nil or table",
         }
     }

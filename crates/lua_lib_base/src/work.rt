@@ -1,7 +1,7 @@
 //! The work of a call, which its steps are counted by.
 
 ghost use Rattle.std.specs.Prelude.{◌≡◌, ◌^◌, ◌-◌, min};
-ghost use Rattle.lua_lib_base.specs.Work.{no_work, making, giving, texts_length};
+ghost use Rattle.lua_lib_base.specs.Work.{no_work, taking, making, giving, texts_length};
 
 use lua_values::Value;
 
@@ -25,6 +25,18 @@ impl Work {
     {
         Work {
             taken: 0,
+            made: 0,
+            tests: 0,
+            given: 0,
+        }
+    }
+
+    /// So many bytes of text are taken from a table.
+    pub fn taking(bytes: u64) -> Work
+        ensures { result ≡ taking bytes }
+    {
+        Work {
+            taken: bytes,
             made: 0,
             tests: 0,
             given: 0,

@@ -1,0 +1,6 @@
+mod JoinLemmas
+mod WriteLemmas
+mod SortLemmas
+mod OrderLemmas
+mod ShiftLemmas
+mod LawLemmas

@@ -1,0 +1,10 @@
+pub mod Ranges
+pub mod Walks
+pub mod Writes
+pub mod Joins
+pub mod Moves
+pub mod Greatest
+pub mod Sorting
+pub mod Functions
+pub mod Meaning
+pub mod Laws
