@@ -83,6 +83,10 @@ slot_gives x s h i is = record {
 pub slot_number : (x : Expr) (s : Slots) (h : Heap) (i : ℕ) (n : ℤ) → x.kind ≡ v.Slot i → slice_get s i ≡ Some (Plain (Number n)) → Gives x s h (Number n) 1
 slot_number x s h i n is there = subst (λ (v : Value). Gives x s h v 1) (ap (λ (t : Option Slot). in_slot t h) there) (slot_gives x s h i is)
 
+pub few_steps : {A : Type 0} (steps : A → ℕ) (r : Option A) (n : ℕ) → n < step_limit → IfSome r (λ a. steps a ≡ n) → IfSome r (λ a. steps a < step_limit)
+few_steps steps (Some a) n few is = rw is few
+few_steps steps None n few is = tt
+
 pub slot_counted : (x : Expr) (s : Slots) (h : Heap) (i : ℕ) (r : Option Counted) → x.kind ≡ v.Slot i → IfSome r (λ c. slice_get s i ≡ Some (Plain (Number c.number))) → IfSome r (λ c. c.steps ≡ 1)
     → IfSome r (λ c. Gives x s h (Number c.number) c.steps)
 slot_counted x s h i (Some c) is there steps = subst (λ (k : ℕ). Gives x s h (Number c.number) k) (sym steps) (slot_number x s h i c.number is there)

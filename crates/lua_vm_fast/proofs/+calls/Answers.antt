@@ -4,8 +4,8 @@ use Rattle.lua_ast.specs.declared.expressions.Expr.{Expr}
 use Rattle.lua_ast.specs.declared.statements.Stmt.{Stmt}
 use Rattle.lua_values.specs.declared.values.Value.TheVariants.{Closure}
 use Rattle.lua_vm_fast.specs.Calls.{GivesList}
-use Rattle.lua_vm_fast.proofs.CallLemmas.{none_given, one_given, all_given, call_gives, binary_gives, call_does, closure_returns, block_returns}
-use Rattle.lua_vm_fast.proofs.BodyLemmas.{goes, returns, returned_ends, if_some}
+use Rattle.lua_vm_fast.proofs.CallLemmas.{all_given, all_valued, as_number, as_seen, binary_gives, binary_valued, block_returns, call_does, call_gives, call_valued, closure_returns, none_given, one_given}
+use Rattle.lua_vm_fast.proofs.BodyLemmas.{begins, goes, over, returns, returned_ends, if_some}
 use Rattle.lua_vm_fast.proofs.BranchLemmas.{if_ends, if_kind}
 use Rattle.lua_vm_fast.proofs.+calls.Goals as goal
 
@@ -142,3 +142,34 @@ bodies::if_end-returns-clause-few t c = grind (arith, common_steps)
 
 pub calls::give-returns-clause-few : goal.calls::give-returns-clause-few
 calls::give-returns-clause-few t c = omega arith
+
+pub calls::value_at-returns-in-Call-clause-gives : goal.calls::value_at-returns-in-Call-clause-gives
+calls::value_at-returns-in-Call-clause-gives t c =
+    call_valued c.args.site.now c.args.levels c.args.x.now c.in-Call.f c.in-Call.xs c.deref.result.now c.args.slots.now c.args.store.now.heap c.one_called.result
+    c.in-Call.is (cc) c.one_called.ensures.gives
+
+pub calls::value_at-returns-in-Some-clause-gives : goal.calls::value_at-returns-in-Some-clause-gives
+calls::value_at-returns-in-Some-clause-gives t c =
+    as_seen c.args.site.now c.args.levels c.args.x.now c.args.slots.now c.args.store.now.heap c.in-Some.v.value c.in-Some.v.steps (rw c.in-Some.is at c.value_of.ensures.gives)
+
+pub calls::value_at-returns-in-None-clause-gives : goal.calls::value_at-returns-in-None-clause-gives
+calls::value_at-returns-in-None-clause-gives t c =
+    binary_valued c.args.site.now c.args.levels c.args.x.now c.in-Binary.operator c.in-Binary.a c.in-Binary.b c.deref-in-None.result.now c.deref-in-None-2.result.now
+    c.args.slots.now c.args.store.now.heap c.operated_at.result c.in-Binary.is (cc) (cc) c.operated_at.ensures.gives
+
+pub calls::value_at-returns-in_default-clause-gives : goal.calls::value_at-returns-in_default-clause-gives
+calls::value_at-returns-in_default-clause-gives t c =
+    all_valued c.args.site.now c.args.levels c.args.x.now c.args.slots.now c.args.store.now.heap c.value_of-in_default.result c.value_of-in_default.ensures.gives
+
+pub calls::number_at-returns-in-Number-clause-gives : goal.calls::number_at-returns-in-Number-clause-gives
+calls::number_at-returns-in-Number-clause-gives t c =
+    as_number c.args.site.now c.args.levels c.args.x.now c.args.slots.now c.args.store.now.heap c.in_ok-value.field-0.value c.in-Number.number c.in_ok-value.field-0.steps
+    c.in-Number.is c.in_ok-value.ensures.gives
+
+pub bodies::block_end-loop-i-init : goal.bodies::block_end-loop-i-init
+bodies::block_end-loop-i-init t c = (begins c.args.site.now c.args.levels c.args.stmts.now c.args.slots.now.items c.args.store.now.heap, omega arith)
+
+pub bodies::block_end-returns-clause-gives : goal.bodies::block_end-returns-clause-gives
+bodies::block_end-returns-clause-gives t c =
+    over c.args.site.now c.args.levels c.args.stmts.now c.loop-i.i c.args.slots.now.items c.loop-i.slots.items c.args.store.now.heap c.loop-i.steps
+    (omega (arith, c.loop-i-test.false)) c.loop-i.invariant.0

@@ -1,7 +1,10 @@
 use Rattle.std.proofs.Common.{Some, arith}
 use Rattle.std.proofs.lemmas.Grind.{common_steps}
-use Rattle.lua_vm_fast.proofs.ValueLemmas.{nil_gives, true_gives, false_gives, number_gives, slot_counted, with_counted}
-use Rattle.lua_vm_fast.proofs.PlaceLemmas.{slot_seen, global_seen, in_seen, key_seen, named_seen, text_seen}
+use Rattle.lua_vm_fast.specs.declared.numbers.Counted.{Counted}
+use Rattle.lua_vm_fast.specs.declared.places.Seen.{Seen}
+use Rattle.lua_vm_fast.specs.declared.places.Valued.{Valued}
+use Rattle.lua_vm_fast.proofs.ValueLemmas.{nil_gives, true_gives, false_gives, number_gives, binary_counted, few_steps, slot_counted, with_counted}
+use Rattle.lua_vm_fast.proofs.PlaceLemmas.{slot_seen, global_seen, in_seen, index_found, key_seen, named_seen, text_seen}
 use Rattle.lua_vm_fast.proofs.+numbers.Goals as goal
 
 pub numbers::number_of-returns-in-Number-clause-gives : goal.numbers::number_of-returns-in-Number-clause-gives
@@ -96,3 +99,25 @@ places::value_of-number_of-requires t c = (omega (arith, c.decreases), tt)
 
 pub places::value_of-seen_of-requires : goal.places::value_of-seen_of-requires
 places::value_of-seen_of-requires t c = (omega (arith, c.decreases), tt)
+
+pub numbers::number_of-returns-in-Slot-clause-few : goal.numbers::number_of-returns-in-Slot-clause-few
+numbers::number_of-returns-in-Slot-clause-few t c = few_steps (λ (n : Counted). n.steps) c.in_slot.result 1 (omega arith) c.in_slot.ensures.steps
+
+pub numbers::number_of-returns-in-Binary-clause-gives : goal.numbers::number_of-returns-in-Binary-clause-gives
+numbers::number_of-returns-in-Binary-clause-gives t c =
+    binary_counted c.args.x.now c.in-Binary.operator c.in-Binary.a c.in-Binary.b c.deref.result.now c.deref-in-Binary.result.now c.args.slots.now c.args.store.now.heap c.operated.result
+    c.in-Binary.is (cc) (cc) c.operated.ensures.gives
+
+pub numbers::number_seen-returns-in-Number-clause-gives : goal.numbers::number_seen-returns-in-Number-clause-gives
+numbers::number_seen-returns-in-Number-clause-gives t c = rw c.in-Number.is at c.in_ok-seen.ensures.gives
+
+pub places::seen_of-returns-in-Slot-clause-few : goal.places::seen_of-returns-in-Slot-clause-few
+places::seen_of-returns-in-Slot-clause-few t c = few_steps (λ (n : Seen). n.steps) c.seen_in_slot.result 1 (omega arith) c.seen_in_slot.ensures.steps
+
+pub places::seen_of-returns-in-Index-clause-gives : goal.places::seen_of-returns-in-Index-clause-gives
+places::seen_of-returns-in-Index-clause-gives t c =
+    index_found c.args.x.now c.in-Index.a c.in-Index.b c.deref.result.now c.deref-in-Index.result.now c.args.slots.now c.args.store.now.heap c.seen_at.result
+    c.in-Index.is (cc) (cc) c.seen_at.ensures.gives
+
+pub places::value_of-returns-in-Text-clause-few : goal.places::value_of-returns-in-Text-clause-few
+places::value_of-returns-in-Text-clause-few t c = few_steps (λ (n : Valued). n.steps) c.text_value.result 1 (omega arith) c.text_value.ensures.steps
