@@ -151,8 +151,8 @@ impl Client {
     ghost use Rattle.connection_plan.specs.Clients as stage;
     ghost use Rattle.connection_plan.specs.Turns.{is_more};
     ghost use Rattle.connection_plan.specs.Serving as serving;
-    ghost use Rattle.connection_strand.specs.Kept.{kept, timer_of, fresh, with_armed, is_armed, with_times, all_taken, wants_offer, stage_waiting, timer_waiting};
-    ghost use Rattle.connection_strand.specs.Kept.{seen_of_body, seen_of_taken};
+    ghost use Rattle.connection_strand.specs.Kept.{kept, timer_of, fresh, with_armed, is_armed, with_times, all_taken, wants_offer};
+    ghost use Rattle.connection_strand.specs.Kept.{seen_of_body, seen_of_taken, stage_waiting, timer_waiting};
 
     /// As a connection begins, for a client or for a job; takes no memory.
     pub(crate) fn new(alloc: Global, times: Times, is_open: bool) -> Client

@@ -13,19 +13,17 @@ use strand_contract::{Act, Place};
 use uri_args::Target;
 
 impl<R: ServiceContract> Connection<R> {
-    ghost use Rattle.std.specs.Prelude.{◌≡◌, ◌++◌, ◌+◌, ◌*◌, IfOk, None, true, false};
+    ghost use Rattle.std.specs.Prelude.{◌≡◌, ◌++◌, ◌+◌, ◌*◌, IfOk, true, false};
     ghost use Rattle.strand_contract.specs.declared.turns.Place.TheVariants as place;
-    ghost use Rattle.client_line.specs.Lines.{held_in};
     ghost use Rattle.client_line.specs.Records as line;
     ghost use Rattle.client_line.specs.declared.requests.LineOut.TheVariants as answer;
-    ghost use Rattle.strand_plans.specs.Moves.{Done, Look, HangUp};
+    ghost use Rattle.strand_plans.specs.Moves.{Look, HangUp};
     ghost use Rattle.connection_plan.specs.Clients.{is_last};
-    ghost use Rattle.connection_plan.specs.Clients as stage;
     ghost use Rattle.connection_plan.specs.Timers as timer;
-    ghost use Rattle.connection_plan.specs.Turns.{change, send, finish, lose, begin, begin_timer, end_timer, wait_for, refuse, heard_by, next};
+    ghost use Rattle.connection_plan.specs.Turns.{send, finish, lose, begin, end_timer, refuse, heard_by, next};
     ghost use Rattle.connection_strand.specs.Views.{view_of, service};
-    ghost use Rattle.connection_strand.specs.Standing.{Goes, Ends, Hears, IsFree, IsAt, IsWithin, IsUnasked};
-    ghost use Rattle.connection_strand.specs.Kept.{kept, stage_of, timer_of};
+    ghost use Rattle.connection_strand.specs.Standing.{Goes, Ends, Hears, IsWithin, IsUnasked};
+    ghost use Rattle.connection_strand.specs.Kept.{kept};
     ghost use Rattle.connection_strand.specs.Costs.{unit, Spends, Pays, Costs, Heard, Settles, Falls};
     ghost use Rattle.connection_strand.specs.Acts.{hang_ups};
     ghost use Rattle.connection_strand.specs.Turns.{IsAnswered, IsRefusedAt};

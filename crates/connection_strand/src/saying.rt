@@ -19,7 +19,6 @@ fn continue_reply() -> Bytes
 
 impl<R: ServiceContract> Connection<R> {
     ghost use Rattle.std.specs.Prelude.{IfOk, ◌≡◌};
-    ghost use Rattle.run_contract.specs.declared.turns.Said.TheVariants as said;
     ghost use Rattle.strand_plans.specs.Moves.{Look};
     ghost use Rattle.connection_plan.specs.Clients as stage;
     ghost use Rattle.connection_plan.specs.Turns.{let_send, wait_more, await_body};

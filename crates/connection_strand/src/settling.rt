@@ -12,7 +12,7 @@ impl<R: ServiceContract> Connection<R> {
     ghost use Rattle.strand_plans.specs.Moves.{Look};
     ghost use Rattle.run_contract.specs.declared.turns.Asking.TheVariants as asking;
     ghost use Rattle.run_contract.specs.Conditions.{MayHear, asks_body};
-    ghost use Rattle.connection_plan.specs.Turns.{busy, waiting, answer_asked, answer_body, ask_body, tell_body, flush, settle};
+    ghost use Rattle.connection_plan.specs.Turns.{waiting, answer_asked, answer_body, ask_body, tell_body, flush, settle};
     ghost use Rattle.connection_plan.specs.Clients as stage;
     ghost use Rattle.connection_strand.specs.Views.{view_of, service};
     ghost use Rattle.connection_strand.specs.Costs.{unit, Pays, Costs, Settles};

@@ -47,10 +47,10 @@ impl<R: ServiceContract> Connection<R> {
     ghost use Rattle.strand_plans.specs.Moves.{Done};
     ghost use Rattle.strand_plans.specs.Plans.{stepped, unborn_state};
     ghost use Rattle.run_contract.specs.Runs.{waits_at_first};
-    ghost use Rattle.connection_plan.specs.Connections.{connection_plan, connection_behavior};
+    ghost use Rattle.connection_plan.specs.Connections.{connection_plan};
     ghost use Rattle.connection_strand.specs.Views.{view_of, service};
     ghost use Rattle.connection_strand.specs.Standing.{Went};
-    ghost use Rattle.connection_strand.specs.Following.{IsNew, Follows, is_client};
+    ghost use Rattle.connection_strand.specs.Following.{IsNew, is_client};
     ghost use Rattle.connection_strand.specs.Kept.{kept, fresh, waits_of, wants_offer};
     ghost use Rattle.connection_strand.specs.Acts.{sockets_with, count_with};
     ghost use Rattle.connection_strand.specs.Costs.{Falls};

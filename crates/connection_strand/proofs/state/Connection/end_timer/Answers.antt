@@ -1,6 +1,5 @@
-use Rattle.std.proofs.Common.{Bool, refl, sym, ap, ◌∙◌, ◌++◌, ◌∷◌, [], if◌then◌else◌}
+use Rattle.std.proofs.Common.{refl, sym, ap, ◌∙◌, ◌++◌, ◌∷◌, [], if◌then◌else◌}
 use Rattle.strand_contract.specs.declared.turns.Act.TheVariants as act
-use Rattle.connection_strand.specs.declared.state.Turn.{Turn}
 use Rattle.connection_strand.specs.Kept.{timer_of}
 use Rattle.connection_strand.specs.Views.{view_of}
 use Rattle.connection_strand.proofs.Costing.{ends-costs-if}
