@@ -38,7 +38,7 @@ use Rattle.connection_plan.specs.Connections.{connection_plan, connection_behavi
 use Rattle.connection_plan.proofs.Meets.{meets}
 use Rattle.connection_strand.specs.Views.{View, service, Known}
 use Rattle.connection_strand.specs.declared.state.Connection.{Connection}
-use Rattle.connection_strand.specs.declared.state.Turn.{Turn}
+use Rattle.connection_strand.specs.declared.state.Progress.{Progress}
 use Rattle.connection_strand.specs.Kept.{Kept, kept, kept_of, wants_offer, waits_of}
 use Rattle.connection_strand.specs.Acts.{sockets_with, count_with}
 use Rattle.connection_strand.specs.Costs.{whole, left_of}
@@ -272,7 +272,7 @@ module _ {R J I : Type 0} (v : View R J I) (lawful : IsRun v.meaning.plan v.mean
 
   -- ---- the turn
 
-  pub may-answer : (now : ℕ) (x : Answer) (a : Action J) (es : List (LocalAction J)) (c : Connection R) (u : Turn J) → Follows v c es → now ≡ moment es
+  pub may-answer : (now : ℕ) (x : Answer) (a : Action J) (es : List (LocalAction J)) (c : Connection R) (u : Progress J) → Follows v c es → now ≡ moment es
       → answered (todo (connection_behavior (service v)) es) x ≡ Some a → IsExecution (connection_behavior (service v)) (Did a ∷ es)
       → u.is_offered ≡ (c.is_taking || wants_offer (kept c.client)) → u.acts.items ≡ []
       → IsGiven v now x (turned (service v) a es) c u
@@ -343,20 +343,20 @@ module _ {R J I : Type 0} (v : View R J I) (lawful : IsRun v.meaning.plan v.mean
 
 module _ {R J I : Type 0} (v : View R J I) where
   -- the run is given it
-  pub may-be-answered : (now : ℕ) (x : Answer) (did : Performed J (Both I)) (d : Connection R) (u : Turn J) (m : Move J (Both I)) → Answered v now x did d u m
+  pub may-be-answered : (now : ℕ) (x : Answer) (did : Performed J (Both I)) (d : Connection R) (u : Progress J) (m : Move J (Both I)) → Answered v now x did d u m
       → (run : R) → d.run ≡ Some run → runs.MayBeAnswered v.meaning x run
   may-be-answered now x did d u m h run is =
       (h.ledger, h.inner.run, h.action, subst (λ run. v.meaning.stands run h.ledger h.inner.run) (some-some h.run run (sym h.is ∙ is)) h.standing, h.known, h.answers)
 
   -- there is a run
-  pub answered-runs : (now : ℕ) (x : Answer) (did : Performed J (Both I)) (d : Connection R) (u : Turn J) (m : Move J (Both I)) → Answered v now x did d u m → d.run ≡ None → ⊥
+  pub answered-runs : (now : ℕ) (x : Answer) (did : Performed J (Both I)) (d : Connection R) (u : Progress J) (m : Move J (Both I)) → Answered v now x did d u m → d.run ≡ None → ⊥
   answered-runs now x did d u m h none = none-some h.run (sym none ∙ h.is)
 
   -- its turn comes to its end where the run's does, or else settles
-  pub went-toward : (on : Bool) (did : Performed J (Both I)) (c : Connection R) (u : Turn J) (m : Move J (Both I)) → on ≡ true → Went v on did c u m
+  pub went-toward : (on : Bool) (did : Performed J (Both I)) (c : Connection R) (u : Progress J) (m : Move J (Both I)) → on ≡ true → Went v on did c u m
       → (st : Stage) × Toward v (plain st) did c u m
   went-toward on did c u m e h = subst (λ on. Went v on did c u m) e h
 
-  pub went-came : (on : Bool) (did : Performed J (Both I)) (c : Connection R) (u : Turn J) (m : Move J (Both I)) → on ≡ false → Went v on did c u m
+  pub went-came : (on : Bool) (did : Performed J (Both I)) (c : Connection R) (u : Progress J) (m : Move J (Both I)) → on ≡ false → Went v on did c u m
       → Came v did c u
   went-came on did c u m e h = subst (λ on. Went v on did c u m) e h

@@ -20,7 +20,7 @@ use Rattle.connection_plan.specs.Services.{Both}
 use Rattle.connection_plan.specs.Turns.{is_there, body_told, tell_body, ask_body, answer_body, answer_asked}
 use Rattle.connection_strand.specs.Views.{View, service}
 use Rattle.connection_strand.specs.declared.state.Connection.{Connection}
-use Rattle.connection_strand.specs.declared.state.Turn.{Turn}
+use Rattle.connection_strand.specs.declared.state.Progress.{Progress}
 use Rattle.connection_strand.specs.Kept.{Kept, kept, kept_of, waits_of, client_of, all_taken, seen_of_body, seen_of_taken}
 use Rattle.connection_strand.specs.Standing.{plain, IsAt, before}
 use Rattle.connection_strand.proofs.Moving.{IsSameRun}
@@ -110,7 +110,7 @@ module _ {R J I : Type 0} (v : View R J I) where
   -- what is there of the body is taken
   module _ (lawful : IsRun v.meaning.plan v.meaning.holds) (apart : (x : R) (b c : Ledger J) (r : I) → AreAlike b c → v.meaning.stands x b r → v.meaning.stands x c r) where
     -- by a run that waits for it
-    pub asks-body : (now : ℕ) (m : Move J (Both I)) (did : Performed J (Both I)) (c c' : Connection R) (u : Turn J) (x : Option RunSeen) → IsSameRun c c'
+    pub asks-body : (now : ℕ) (m : Move J (Both I)) (did : Performed J (Both I)) (c c' : Connection R) (u : Progress J) (x : Option RunSeen) → IsSameRun c c'
         → kept c'.client ≡ record (kept c.client) { came = after_asked (kept c.client).came (kept c.client).limit } → x ≡ seen_of_body (kept c.client)
         → To v (plain stage.Busy) did c u (Look (λ b s. ask_body (service v) now m b s.client)) → To v (plain stage.Busy) did c' u (tell_body (service v) now m x)
     asks-body now m did c c' u x same client is h =
@@ -123,7 +123,7 @@ module _ {R J I : Type 0} (v : View R J I) where
         (changes v lawful apart (λ k. record k { came = after_asked k.came k.limit }) (λ k. record k { came = after_asked k.came k.limit }) (plain stage.Busy) did c c' u
         (tell_body (service v) now m told) (λ b x. refl) (λ x. refl) same client (record { ledger = b; inner = s; within = h.within; leads = h.leads }))
 
-    pub asked-at : (now : ℕ) (c c' : Connection R) (u : Turn J) (x : Option RunSeen) → IsSameRun c c'
+    pub asked-at : (now : ℕ) (c c' : Connection R) (u : Progress J) (x : Option RunSeen) → IsSameRun c c'
         → kept c'.client ≡ record (kept c.client) { came = after_asked (kept c.client).came (kept c.client).limit } → x ≡ seen_of_body (kept c.client)
         → IsAt v stage.Busy c u → IsAt v stage.Busy c' u
     asked-at now c c' u x same client is h =
@@ -132,7 +132,7 @@ module _ {R J I : Type 0} (v : View R J I) where
         (t.ledger, t.inner, t.within)
 
     -- by one that asks for it
-    pub answers-body : (now max : ℕ) (m : Move J (Both I)) (did : Performed J (Both I)) (c c' : Connection R) (u : Turn J) (x : Option RunSeen) → IsSameRun c c'
+    pub answers-body : (now max : ℕ) (m : Move J (Both I)) (did : Performed J (Both I)) (c c' : Connection R) (u : Progress J) (x : Option RunSeen) → IsSameRun c c'
         → kept c'.client ≡ record (kept c.client) { limit = max; came = after_asked (kept c.client).came max } → x ≡ seen_of_body (record (kept c.client) { limit = max })
         → To v (plain stage.Busy) did c u (Look (λ b s. answer_asked (service v) now m b s.client (asking.Body max))) → To v (plain stage.Busy) did c' u (answer_body (service v) now m x)
     answers-body now max m did c c' u x same client is h =
@@ -146,7 +146,7 @@ module _ {R J I : Type 0} (v : View R J I) where
         (changes v lawful apart (λ k. record k { limit = max; came = after_asked k.came max }) (λ k. record k { limit = max; came = after_asked k.came max }) (plain stage.Busy) did c c' u
         (answer_body (service v) now m told) (λ b x. refl) (λ x. refl) same client (record { ledger = b; inner = s; within = h.within; leads = h.leads }))
 
-    pub answered-at : (now max : ℕ) (c c' : Connection R) (u : Turn J) (x : Option RunSeen) → IsSameRun c c'
+    pub answered-at : (now max : ℕ) (c c' : Connection R) (u : Progress J) (x : Option RunSeen) → IsSameRun c c'
         → kept c'.client ≡ record (kept c.client) { limit = max; came = after_asked (kept c.client).came max } → x ≡ seen_of_body (record (kept c.client) { limit = max })
         → IsAt v stage.Busy c u → IsAt v stage.Busy c' u
     answered-at now max c c' u x same client is h =

@@ -20,7 +20,7 @@ use Rattle.connection_plan.specs.Turns.{begin_timer, run_turn}
 use Rattle.connection_plan.specs.Connections.{connection_plan}
 use Rattle.connection_strand.specs.Views.{View, service}
 use Rattle.connection_strand.specs.declared.state.Connection.{Connection}
-use Rattle.connection_strand.specs.declared.state.Turn.{Turn}
+use Rattle.connection_strand.specs.declared.state.Progress.{Progress}
 use Rattle.connection_strand.specs.Kept.{Kept, kept, fresh, waits_of}
 use Rattle.connection_strand.specs.Standing.{plain, places, Came, before}
 use Rattle.connection_strand.specs.Turns.{Took}
@@ -43,14 +43,14 @@ module _ {R J I : Type 0} (v : View R J I) (now : ℕ) where
   abbrev pub begun : Start J → Performed J (Both I)
   begun begin = stepped (connection_plan (service v)) now (Did (Began now begin)) (unborn_state (connection_plan (service v)))
 
-  pub follows : (begin : Start J) (c : Connection R) (u : Turn J) → Came v (begun begin) c u
+  pub follows : (begin : Start J) (c : Connection R) (u : Progress J) → Came v (begun begin) c u
       → Follows v c (Did (Began now begin) ∷ []) × (u.acts.items ≡ (begun begin).acts)
   follows begin c u x = (
     record { stays = x.stays; taking = λ there. x.taking there ∙ ap (is_place place.Client) (sym (begun-is (connection_plan (service v)) (Did (Began now begin) ∷ []))) },
     sym x.acts,
   )
 
-  pub begins-client : (n : ℕ) (c : Connection R) (u : Turn J) → kept c.client ≡ fresh v.serving.default_times true → c.sockets.items ≡ [] → c.count ≡ 0 → c.keeping ≡ None
+  pub begins-client : (n : ℕ) (c : Connection R) (u : Progress J) → kept c.client ≡ fresh v.serving.default_times true → c.sockets.items ≡ [] → c.count ≡ 0 → c.keeping ≡ None
       → c.is_taking ≡ false → u.acts.items ≡ [] → u.is_offered ≡ false
       → To v (plain stage.Head) (begun (start.Client n)) c u (begin_timer (service v) now timer.Header Done)
   begins-client n c u client socks count keeping taking acts offered =
@@ -81,7 +81,7 @@ module _ {R J I : Type 0} (v : View R J I) (now : ℕ) where
         leads = ap (λ xs. before xs (perform (begin_timer (service v) now timer.Header Done) b s)) (sym acts);
       }
 
-  pub begins-job : IsRun v.meaning.plan v.meaning.holds → (n : ℕ) (premature : Bool) (job : J) (run : R) (turn : RunTurn J) (c c' : Connection R) (u : Turn J)
+  pub begins-job : IsRun v.meaning.plan v.meaning.holds → (n : ℕ) (premature : Bool) (job : J) (run : R) (turn : RunTurn J) (c c' : Connection R) (u : Progress J)
       → calls.BeginsJob v.meaning now premature job run turn
       → kept c.client ≡ fresh v.serving.default_times false → waits_of c.waits ≡ waits_at_first false → c.sockets.items ≡ [] → c.count ≡ 0 → c.keeping ≡ None
       → kept c'.client ≡ record (kept c.client) { stage = stage.Busy } → c'.run ≡ Some run → c'.waits ≡ c.waits → c'.sockets ≡ c.sockets → c'.count ≡ c.count → c'.keeping ≡ c.keeping

@@ -15,7 +15,7 @@ use Rattle.connection_plan.specs.Turns.{change}
 use Rattle.connection_plan.specs.Connections.{came_at}
 use Rattle.connection_strand.specs.Views.{View, service}
 use Rattle.connection_strand.specs.declared.state.Connection.{Connection}
-use Rattle.connection_strand.specs.declared.state.Turn.{Turn}
+use Rattle.connection_strand.specs.declared.state.Progress.{Progress}
 use Rattle.connection_strand.specs.Kept.{Kept, kept}
 use Rattle.connection_strand.specs.Standing.{Moment, plain, before}
 use Rattle.connection_strand.specs.Shown.{heard_at}
@@ -34,10 +34,10 @@ came-is site now stage.Over f s = refl
 
 module _ {R J I : Type 0} (v : View R J I)
     (lawful : IsRun v.meaning.plan v.meaning.holds) (apart : (x : R) (b c : Ledger J) (r : I) → AreAlike b c → v.meaning.stands x b r → v.meaning.stands x c r) (now : ℕ) where
-  abbrev pub Hearing : LineOut → Moment J → Performed J (Both I) → Connection R → Turn J → Type 0
+  abbrev pub Hearing : LineOut → Moment J → Performed J (Both I) → Connection R → Progress J → Type 0
   Hearing out e did c u = To v e did c u (Look (λ b s. heard_at (service v) now s.client.stage out s.client.came s.client.ended))
 
-  pub comes : (bytes : List ℕ) (answer : LineOut) (st : Stage) (did : Performed J (Both I)) (c c' : Connection R) (u : Turn J) → IsSameRun c c'
+  pub comes : (bytes : List ℕ) (answer : LineOut) (st : Stage) (did : Performed J (Both I)) (c c' : Connection R) (u : Progress J) → IsSameRun c c'
       → IsFed (kept c.client).came bytes answer (kept c'.client).came → kept c'.client ≡ record (kept c.client) { came = (kept c'.client).came }
       → To v (plain st) did c u (Look (λ b s. came_at (service v) now s.client.stage (fed s.client.came bytes) s)) → Hearing answer (plain st) did c' u
   comes bytes answer st did c c' u same is client h =
@@ -61,7 +61,7 @@ module _ {R J I : Type 0} (v : View R J I)
       }
 
   -- by the stage
-  pub hears-at : (x : Stage) (answer : LineOut) (st : Stage) (did : Performed J (Both I)) (c : Connection R) (u : Turn J) → (kept c.client).stage ≡ x → Hearing answer (plain st) did c u
+  pub hears-at : (x : Stage) (answer : LineOut) (st : Stage) (did : Performed J (Both I)) (c : Connection R) (u : Progress J) → (kept c.client).stage ≡ x → Hearing answer (plain st) did c u
       → To v (plain x) did c u (Look (λ b s. heard_at (service v) now x answer s.client.came s.client.ended))
   hears-at x answer st did c u is h =
       let s = h.inner in

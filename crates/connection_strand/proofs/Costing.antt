@@ -8,7 +8,7 @@ use Rattle.connection_plan.specs.Clients as stage
 use Rattle.connection_plan.specs.Timers.{Timer}
 use Rattle.connection_plan.specs.Timers as timer
 use Rattle.connection_strand.specs.declared.state.Connection.{Connection}
-use Rattle.connection_strand.specs.declared.state.Turn.{Turn}
+use Rattle.connection_strand.specs.declared.state.Progress.{Progress}
 use Rattle.connection_strand.specs.Kept.{Kept, kept, with_armed, is_armed}
 use Rattle.connection_strand.specs.Costs.{unit, weight_if, client_left, units, whole, left_at, left_of, Spends, Pays, Costs, Settles}
 use Rattle.connection_strand.proofs.Moving.{unarmed-same}
@@ -50,7 +50,7 @@ cancels-pays timer.Send k e = let w = ap (λ (x : Bool). weight_if x 4) e in ome
 
 module _ {R J : Type 0} (left : R → ℕ) (bound : ℕ) where
   -- the run, what is held and how far the reply is are as they were
-  pub spends-client : (n : ℕ) (c c' : Connection R) (u u' : Turn J) (k : Kept) → kept c'.client ≡ k → c'.run ≡ c.run → c'.sockets.items ≡ c.sockets.items
+  pub spends-client : (n : ℕ) (c c' : Connection R) (u u' : Progress J) (k : Kept) → kept c'.client ≡ k → c'.run ≡ c.run → c'.sockets.items ≡ c.sockets.items
       → units left bound k c.run ≡ units left bound (kept c.client) c.run
       → client_left k + length u'.acts.items ≤ client_left (kept c.client) + length u.acts.items + n → Spends left bound n c u c' u'
   spends-client n c c' u u' k client run socks same less =
@@ -61,7 +61,7 @@ module _ {R J : Type 0} (left : R → ℕ) (bound : ℕ) where
       ∙ ap (λ (x : ℕ). unit * x + client_left k + 2 * length c.sockets.items + 2) same in
       omega arith
 
-  pub begins-costs : (t : Timer) (c c' : Connection R) (u u' : Turn J) (a : Act J) → kept c'.client ≡ with_armed t true (kept c.client) → c'.run ≡ c.run → c'.sockets.items ≡ c.sockets.items
+  pub begins-costs : (t : Timer) (c c' : Connection R) (u u' : Progress J) (a : Act J) → kept c'.client ≡ with_armed t true (kept c.client) → c'.run ≡ c.run → c'.sockets.items ≡ c.sockets.items
       → u'.acts.items ≡ u.acts.items ++ a ∷ [] → Spends left bound 5 c u c' u'
   begins-costs t c c' u u' a client run socks acts =
       spends-client 5 c c' u u' (with_armed t true (kept c.client)) client run socks (same t)
@@ -73,7 +73,7 @@ module _ {R J : Type 0} (left : R → ℕ) (bound : ℕ) where
       same timer.Body = refl
       same timer.Send = refl
 
-  ends-costs : (t : Timer) (c c' : Connection R) (u u' : Turn J) (a : Act J) → is_armed t (kept c.client) ≡ true → kept c'.client ≡ with_armed t false (kept c.client) → c'.run ≡ c.run
+  ends-costs : (t : Timer) (c c' : Connection R) (u u' : Progress J) (a : Act J) → is_armed t (kept c.client) ≡ true → kept c'.client ≡ with_armed t false (kept c.client) → c'.run ≡ c.run
       → c'.sockets.items ≡ c.sockets.items → u'.acts.items ≡ u.acts.items ++ a ∷ [] → Spends left bound 0 c u c' u'
   ends-costs t c c' u u' a armed client run socks acts =
       spends-client 0 c c' u u' (with_armed t false (kept c.client)) client run socks (same t)
@@ -86,19 +86,19 @@ module _ {R J : Type 0} (left : R → ℕ) (bound : ℕ) where
       same timer.Send = refl
 
   -- or there is nothing to cancel
-  pub ends-costs-if : (o : Bool) (t : Timer) (c c' : Connection R) (u u' : Turn J) (a : Act J) → is_armed t (kept c.client) ≡ o → kept c'.client ≡ with_armed t false (kept c.client) → c'.run ≡ c.run
+  pub ends-costs-if : (o : Bool) (t : Timer) (c c' : Connection R) (u u' : Progress J) (a : Act J) → is_armed t (kept c.client) ≡ o → kept c'.client ≡ with_armed t false (kept c.client) → c'.run ≡ c.run
       → c'.sockets.items ≡ c.sockets.items → u'.acts.items ≡ u.acts.items ++ (if o then a ∷ [] else []) → Spends left bound 0 c u c' u'
   ends-costs-if true t c c' u u' a armed client run socks acts = ends-costs t c c' u u' a armed client run socks acts
   ends-costs-if false t c c' u u' a none client run socks acts =
       spends-client 0 c c' u u' (kept c.client) (client ∙ unarmed-same t (kept c.client) none) run socks refl (let l = ap length acts ∙ length-append u.acts.items [] in omega arith)
 
-  pub spends-nothing : (c : Connection R) (u : Turn J) → Spends left bound 0 c u c u
+  pub spends-nothing : (c : Connection R) (u : Progress J) → Spends left bound 0 c u c u
   spends-nothing c u = omega arith
 
-  pub spends-none : (n : ℕ) (c : Connection R) (u : Turn J) → Spends left bound n c u c u
+  pub spends-none : (n : ℕ) (c : Connection R) (u : Progress J) → Spends left bound n c u c u
   spends-none n c u = omega arith
 
-  pub queues-costs : (bytes : List ℕ) (c d c' : Connection R) (u u' : Turn J) → kept d.client ≡ record (kept c.client) { sending = queues.queued (kept c.client).sending bytes }
+  pub queues-costs : (bytes : List ℕ) (c d c' : Connection R) (u u' : Progress J) → kept d.client ≡ record (kept c.client) { sending = queues.queued (kept c.client).sending bytes }
       → d.run ≡ c.run → d.sockets.items ≡ c.sockets.items → Spends left bound 1 d u c' u' → Spends left bound (16 * length bytes + 1) c u c' u'
   queues-costs bytes c d c' u u' client run socks h =
       let k = kept c.client in
@@ -106,7 +106,7 @@ module _ {R J : Type 0} (left : R → ℕ) (bound : ℕ) where
       (let l = queued-longer k.sending bytes in omega arith) in
       omega arith
 
-  pub hangs-costs : (c c' : Connection R) (u u' : Turn J) → Pays left bound 3 c u c' u' → Spends left bound 0 c u c' u'
+  pub hangs-costs : (c c' : Connection R) (u u' : Progress J) → Pays left bound 3 c u c' u' → Spends left bound 0 c u c' u'
   hangs-costs c c' u u' h = omega arith
 
 module _ {R : Type 0} (left : R → ℕ) (bound : ℕ) where
@@ -123,31 +123,31 @@ module _ {R : Type 0} (left : R → ℕ) (bound : ℕ) where
 
 -- a call that may end, after others
 module _ {R J : Type 0} (left : R → ℕ) (bound : ℕ) where
-  pub ends-within : (n : ℕ) (c c' : Connection R) (u u' : Turn J) → Spends left bound n c u c' u' → Costs left bound n c u c' u'
+  pub ends-within : (n : ℕ) (c c' : Connection R) (u u' : Progress J) → Spends left bound n c u c' u' → Costs left bound n c u c' u'
   ends-within n c c' u u' h = let e = may-end left bound c' in omega arith
 
-  pub costs-more : (c c' : Connection R) (u u' : Turn J) → Costs left bound 0 c u c' u' → Costs left bound 5 c u c' u'
+  pub costs-more : (c c' : Connection R) (u u' : Progress J) → Costs left bound 0 c u c' u' → Costs left bound 5 c u c' u'
   costs-more c c' u u' h = omega arith
 
-  pub costs-after : (n m : ℕ) (c d c' : Connection R) (u v u' : Turn J) → Spends left bound n c u d v → Costs left bound m d v c' u' → Costs left bound (n + m) c u c' u'
+  pub costs-after : (n m : ℕ) (c d c' : Connection R) (u v u' : Progress J) → Spends left bound n c u d v → Costs left bound m d v c' u' → Costs left bound (n + m) c u c' u'
   costs-after n m c d c' u v u' h k = omega arith
 
-  pub spends-after : (n m : ℕ) (c d c' : Connection R) (u v u' : Turn J) → Spends left bound n c u d v → Spends left bound m d v c' u' → Spends left bound (n + m) c u c' u'
+  pub spends-after : (n m : ℕ) (c d c' : Connection R) (u v u' : Progress J) → Spends left bound n c u d v → Spends left bound m d v c' u' → Spends left bound (n + m) c u c' u'
   spends-after n m c d c' u v u' h k = omega arith
 
-  pub spends-then : (n : ℕ) (c d c' : Connection R) (u v u' : Turn J) → Spends left bound 0 c u d v → Spends left bound n d v c' u' → Spends left bound n c u c' u'
+  pub spends-then : (n : ℕ) (c d c' : Connection R) (u v u' : Progress J) → Spends left bound 0 c u d v → Spends left bound n d v c' u' → Spends left bound n c u c' u'
   spends-then n c d c' u v u' h k = omega arith
 
-  pub pays-after : (n : ℕ) (c d c' : Connection R) (u v u' : Turn J) → Spends left bound 0 c u d v → Pays left bound n d v c' u' → Pays left bound n c u c' u'
+  pub pays-after : (n : ℕ) (c d c' : Connection R) (u v u' : Progress J) → Spends left bound 0 c u d v → Pays left bound n d v c' u' → Pays left bound n c u c' u'
   pays-after n c d c' u v u' h k = omega arith
 
-  pub settles-less : (c c' : Connection R) (u u' : Turn J) → Spends left bound 0 c u c' u' → Costs left bound 5 c u c' u'
+  pub settles-less : (c c' : Connection R) (u u' : Progress J) → Spends left bound 0 c u c' u' → Costs left bound 5 c u c' u'
   settles-less c c' u u' h = let n = may-end left bound c' in omega arith
 
-  pub loses-costs : (c d c' : Connection R) (u v u' : Turn J) → Spends left bound 0 c u d v → Pays left bound unit d v c' u' → Costs left bound 0 c u c' u'
+  pub loses-costs : (c d c' : Connection R) (u v u' : Progress J) → Spends left bound 0 c u d v → Pays left bound unit d v c' u' → Costs left bound 0 c u c' u'
   loses-costs c d c' u v u' h k = let n = may-end left bound c' in omega arith
 
-  pub settles-nothing : (c : Connection R) (u : Turn J) → Costs left bound 5 c u c u
+  pub settles-nothing : (c : Connection R) (u : Progress J) → Costs left bound 5 c u c u
   settles-nothing c u = let n = may-end left bound c in omega arith
 
 pub unit-some : 1 ≤ unit
@@ -160,15 +160,15 @@ unit-waits = omega arith
 
 -- what pays for a turn of the run settles something
 module _ {R J : Type 0} (left : R → ℕ) (bound : ℕ) where
-  pub pays-settles : (on : Bool) (c c' : Connection R) (u u' : Turn J) → Pays left bound unit c u c' u' → Settles left bound on c u c' u'
+  pub pays-settles : (on : Bool) (c c' : Connection R) (u u' : Progress J) → Pays left bound unit c u c' u' → Settles left bound on c u c' u'
   pays-settles true c c' u u' h = let n = unit-some in omega arith
   pays-settles false c c' u u' h = let n = may-end left bound c' in omega arith
 
   -- also a wait for more of a body before it
-  pub waits-settles : (on : Bool) (c d c' : Connection R) (u v u' : Turn J) → Spends left bound 406 c u d v → Pays left bound unit d v c' u' → Settles left bound on c u c' u'
+  pub waits-settles : (on : Bool) (c d c' : Connection R) (u v u' : Progress J) → Spends left bound 406 c u d v → Pays left bound unit d v c' u' → Settles left bound on c u c' u'
   waits-settles true c d c' u v u' h k = let n = unit-waits in omega arith
   waits-settles false c d c' u v u' h k = let n = unit-waits in let e = may-end left bound c' in omega arith
 
-  pub settles-after : (on : Bool) (c d c' : Connection R) (u v u' : Turn J) → Spends left bound 0 c u d v → Settles left bound on d v c' u' → Settles left bound on c u c' u'
+  pub settles-after : (on : Bool) (c d c' : Connection R) (u v u' : Progress J) → Spends left bound 0 c u d v → Settles left bound on d v c' u' → Settles left bound on c u c' u'
   settles-after true c d c' u v u' h k = omega arith
   settles-after false c d c' u v u' h k = omega arith

@@ -9,7 +9,7 @@ use Rattle.connection_plan.specs.Clients.{Stage}
 use Rattle.connection_plan.specs.Services.{Both}
 use Rattle.connection_strand.specs.Views.{View}
 use Rattle.connection_strand.specs.declared.state.Connection.{Connection}
-use Rattle.connection_strand.specs.declared.state.Turn.{Turn}
+use Rattle.connection_strand.specs.declared.state.Progress.{Progress}
 use Rattle.connection_strand.specs.Kept.{waits_of}
 use Rattle.connection_strand.specs.Standing.{plain, kept_sock, HasRun, Toward, Came, Went, places}
 use Rattle.connection_strand.specs.Costs.{weight_if}
@@ -21,7 +21,7 @@ ending-socks (k ∷ ks) = ap (λ acts. act.HangUp (place.Sock k) ∷ acts) (endi
 
 module _ {R J I : Type 0} (v : View R J I) where
   -- nothing more is done
-  pub done-came : (st : Stage) (did : Performed J (Both I)) (c : Connection R) (u : Turn J) → Toward v (plain st) did c u Done → Came v did c u
+  pub done-came : (st : Stage) (did : Performed J (Both I)) (c : Connection R) (u : Progress J) → Toward v (plain st) did c u Done → Came v did c u
   done-came st did c u h =
       let b = h.ledger in
       let s = h.inner in
@@ -39,7 +39,7 @@ module _ {R J I : Type 0} (v : View R J I) where
         taking = w.taking;
       })
 
-  pub went-came : (on : Bool) (did : Performed J (Both I)) (c : Connection R) (u : Turn J) → Went v on did c u Done → Came v did c u
+  pub went-came : (on : Bool) (did : Performed J (Both I)) (c : Connection R) (u : Progress J) → Went v on did c u Done → Came v did c u
   went-came true did c u w = done-came w.0 did c u w.1
   went-came false did c u w = w
 

@@ -12,7 +12,7 @@ use Rattle.connection_plan.specs.Services.{Both}
 use Rattle.connection_plan.specs.Turns.{is_there, is_all_taken}
 use Rattle.connection_strand.specs.Views.{View}
 use Rattle.connection_strand.specs.declared.state.Connection.{Connection}
-use Rattle.connection_strand.specs.declared.state.Turn.{Turn}
+use Rattle.connection_strand.specs.declared.state.Progress.{Progress}
 use Rattle.connection_strand.specs.declared.client.Stage as own
 use Rattle.connection_strand.specs.declared.client.Stage.TheVariants as code
 use Rattle.connection_strand.specs.Kept.{Kept, kept_of, stage_of, all_taken}
@@ -35,17 +35,17 @@ not-busy code.Over f on = absurd on
 
 module _ {R J I : Type 0} (v : View R J I)
     (lawful : IsRun v.meaning.plan v.meaning.holds) (apart : (x : R) (b c : Ledger J) (r : I) → AreAlike b c → v.meaning.stands x b r → v.meaning.stands x c r) where
-  abbrev pub To : Moment J → Performed J (Both I) → Connection R → Turn J → Move J (Both I) → Type 0
+  abbrev pub To : Moment J → Performed J (Both I) → Connection R → Progress J → Move J (Both I) → Type 0
   To e did c u m = Toward v e did c u m
 
   -- ---- by the stage in code
 
-  pub stage-is : (st : Stage) (did : Performed J (Both I)) (c : Connection R) (u : Turn J) (m : Move J (Both I)) → To (plain st) did c u m → stage_of c.client.stage ≡ st
+  pub stage-is : (st : Stage) (did : Performed J (Both I)) (c : Connection R) (u : Progress J) (m : Move J (Both I)) → To (plain st) did c u m → stage_of c.client.stage ≡ st
   stage-is st did c u m h = ap (λ (k : Kept). k.stage) h.within.serves.client ∙ h.within.at
 
-  pub busy-at : (st : Stage) (did : Performed J (Both I)) (c : Connection R) (u : Turn J) (m : Move J (Both I)) → c.client.stage ≡ code.Busy → To (plain st) did c u m → To (plain stage.Busy) did c u m
+  pub busy-at : (st : Stage) (did : Performed J (Both I)) (c : Connection R) (u : Progress J) (m : Move J (Both I)) → c.client.stage ≡ code.Busy → To (plain st) did c u m → To (plain stage.Busy) did c u m
   busy-at st did c u m e h = subst (λ (x : Stage). To (plain x) did c u m) (sym (stage-is st did c u m h) ∙ ap stage_of e) h
 
   -- moves that may be made there
-  pub from-here : (st : Stage) (c : Connection R) (u : Turn J) → IsAt v st c u → (m : Move J (Both I)) → (did : Performed J (Both I)) × To (plain st) did c u m
+  pub from-here : (st : Stage) (c : Connection R) (u : Progress J) → IsAt v st c u → (m : Move J (Both I)) → (did : Performed J (Both I)) × To (plain st) did c u m
   from-here st c u x m = (before u.acts.items (perform m x.0 x.1), record { ledger = x.0; inner = x.1; within = x.2; leads = refl })

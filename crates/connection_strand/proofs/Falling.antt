@@ -17,7 +17,7 @@ use Rattle.run_contract.specs.declared.turns.SockSeen.TheVariants as at
 use Rattle.strand_plans.specs.Moves.{ending}
 use Rattle.strand_plans.specs.Ledgers.{has_number, numbers}
 use Rattle.connection_strand.specs.declared.state.Connection.{Connection}
-use Rattle.connection_strand.specs.declared.state.Turn.{Turn}
+use Rattle.connection_strand.specs.declared.state.Progress.{Progress}
 use Rattle.connection_strand.specs.Kept.{Kept, kept}
 use Rattle.connection_strand.specs.Costs.{unit, weight_if, client_left, units, whole, Spends, Pays, Costs, Falls}
 use Rattle.connection_strand.specs.Acts.{sockets_with}
@@ -99,7 +99,7 @@ module _ {R : Type 0} (left : R → ℕ) (bound : ℕ) where
 
 module _ {R J : Type 0} (left : R → ℕ) (bound : ℕ) where
   -- the client's part fell by so much, and what follows costs less
-  pub client-falls : (n : ℕ) (c d c' : Connection R) (u u' : Turn J) → d.run ≡ c.run → d.sockets ≡ c.sockets → units left bound (kept d.client) c.run ≡ units left bound (kept c.client) c.run
+  pub client-falls : (n : ℕ) (c d c' : Connection R) (u u' : Progress J) → d.run ≡ c.run → d.sockets ≡ c.sockets → units left bound (kept d.client) c.run ≡ units left bound (kept c.client) c.run
       → client_left (kept d.client) + n < client_left (kept c.client) → Costs left bound n d u c' u' → Falls left bound c u c' u'
   client-falls n c d c' u u' run socks same less h =
       let e : whole left bound d ≡ unit * units left bound (kept c.client) c.run + client_left (kept d.client) + 2 * length c.sockets.items + 2 =
@@ -108,21 +108,21 @@ module _ {R J : Type 0} (left : R → ℕ) (bound : ℕ) where
       ∙ ap (λ (x : ℕ). unit * x + client_left (kept d.client) + 2 * length c.sockets.items + 2) same in
       omega arith
 
-  pub later-falls : (c c' : Connection R) (u u' : Turn J) → (kept c.client).off ≡ false → Spends left bound 5 (record c { client = record c.client { is_put_off = true } }) u c' u' → Falls left bound c u c' u'
+  pub later-falls : (c c' : Connection R) (u u' : Progress J) → (kept c.client).off ≡ false → Spends left bound 5 (record c { client = record c.client { is_put_off = true } }) u c' u' → Falls left bound c u c' u'
   later-falls c c' u u' off h =
       client-falls 5 c (record c { client = record c.client { is_put_off = true } }) c' u u' refl refl refl (let w = ap (λ (x : Bool). weight_if (not x) 16) off in omega arith)
       (let e = may-end left bound c' in omega arith)
 
-  pub waited-falls : (c c' : Connection R) (u u' : Turn J) → (kept c.client).waits ≡ true → Costs left bound 0 (record c { client = record c.client { is_waiting = false } }) u c' u' → Falls left bound c u c' u'
+  pub waited-falls : (c c' : Connection R) (u u' : Progress J) → (kept c.client).waits ≡ true → Costs left bound 0 (record c { client = record c.client { is_waiting = false } }) u c' u' → Falls left bound c u c' u'
   waited-falls c c' u u' on h =
       client-falls 0 c (record c { client = record c.client { is_waiting = false } }) c' u u' refl refl refl (let w = ap (λ (x : Bool). weight_if x 4) on in omega arith) h
 
-  pub sent-falls : (c c' : Connection R) (u u' : Turn J) → (kept c.client).sends ≡ true → Costs left bound 0 (record c { client = record c.client { is_sending = false } }) u c' u' → Falls left bound c u c' u'
+  pub sent-falls : (c c' : Connection R) (u u' : Progress J) → (kept c.client).sends ≡ true → Costs left bound 0 (record c { client = record c.client { is_sending = false } }) u c' u' → Falls left bound c u c' u'
   sent-falls c c' u u' on h =
       client-falls 0 c (record c { client = record c.client { is_sending = false } }) c' u u' refl refl refl (let w = ap (λ (x : Bool). weight_if x 4) on in omega arith) h
 
   -- some bytes of those that are offered were taken
-  pub took-falls : (m : ℕ) (c d c' : Connection R) (u u' : Turn J) → d.run ≡ c.run → d.sockets ≡ c.sockets → kept d.client ≡ record (kept c.client) { sending = queues.taken (kept c.client).sending m }
+  pub took-falls : (m : ℕ) (c d c' : Connection R) (u u' : Progress J) → d.run ≡ c.run → d.sockets ≡ c.sockets → kept d.client ≡ record (kept c.client) { sending = queues.taken (kept c.client).sending m }
       → 0 < m → m ≤ length (kept c.client).sending.bytes → Costs left bound 5 d u c' u' → Falls left bound c u c' u'
   took-falls m c d c' u u' run socks client some few h =
       client-falls 5 c d c' u u' run socks (ap (λ (k : Kept). units left bound k c.run) client)
@@ -130,14 +130,14 @@ module _ {R J : Type 0} (left : R → ℕ) (bound : ℕ) where
       let e : client_left (kept d.client) ≡ client_left (record (kept c.client) { sending = queues.taken (kept c.client).sending m }) = ap client_left client in omega arith) h
 
   -- the run paid
-  pub told-falls : (c c' : Connection R) (u u' : Turn J) → Pays left bound unit c u c' u' → Falls left bound c u c' u'
+  pub told-falls : (c c' : Connection R) (u u' : Progress J) → Pays left bound unit c u c' u' → Falls left bound c u c' u'
   told-falls c c' u u' h = let e = may-end left bound c' in let n = units-hold in omega arith
 
-  pub told-settled : (c d c' : Connection R) (u v u' : Turn J) → Pays left bound unit c u d v → Costs left bound 5 d v c' u' → Falls left bound c u c' u'
+  pub told-settled : (c d c' : Connection R) (u v u' : Progress J) → Pays left bound unit c u d v → Costs left bound 5 d v c' u' → Falls left bound c u c' u'
   told-settled c d c' u v u' h k = let n = units-hold in omega arith
 
   -- an open client is hung up
-  pub hung-pays : (c d : Connection R) (u v : Turn J) → (kept c.client).opened ≡ true → d.run ≡ c.run → d.sockets ≡ c.sockets
+  pub hung-pays : (c d : Connection R) (u v : Progress J) → (kept c.client).opened ≡ true → d.run ≡ c.run → d.sockets ≡ c.sockets
       → kept d.client ≡ record (kept c.client) { opened = false; sending = queues.dropped (kept c.client).sending } → length v.acts.items ≡ length u.acts.items + 1 → Pays left bound 3 c u d v
   hung-pays c d u v opens run socks client acts =
       let k = kept c.client in
@@ -150,7 +150,7 @@ module _ {R J : Type 0} (left : R → ℕ) (bound : ℕ) where
       omega arith
 
   -- or there is none
-  pub hung-spends : (o : Bool) (c d : Connection R) (u v : Turn J) → (kept c.client).opened ≡ o → d.run ≡ c.run → d.sockets ≡ c.sockets
+  pub hung-spends : (o : Bool) (c d : Connection R) (u v : Progress J) → (kept c.client).opened ≡ o → d.run ≡ c.run → d.sockets ≡ c.sockets
       → kept d.client ≡ (if o then record (kept c.client) { opened = false; sending = queues.dropped (kept c.client).sending } else kept c.client)
       → v.acts.items ≡ u.acts.items ++ (if o then act.HangUp place.Client ∷ [] else []) → Spends left bound 0 c u d v
   hung-spends true c d u v opens run socks client acts =
@@ -166,19 +166,19 @@ module _ {R J : Type 0} (left : R → ℕ) (bound : ℕ) where
       by true e f = omega arith
       by false e f = omega arith
 
-  pub lost-falls : (c d c' : Connection R) (u v u' : Turn J) → Pays left bound 3 c u d v → Spends left bound 0 d v c' u' → Falls left bound c u c' u'
+  pub lost-falls : (c d c' : Connection R) (u v u' : Progress J) → Pays left bound 3 c u d v → Spends left bound 0 d v c' u' → Falls left bound c u c' u'
   lost-falls c d c' u v u' h k = let n = may-end left bound c' in omega arith
 
-  pub lost-alone : (c d : Connection R) (u v : Turn J) → Pays left bound 3 c u d v → Falls left bound c u d v
+  pub lost-alone : (c d : Connection R) (u v : Progress J) → Pays left bound 3 c u d v → Falls left bound c u d v
   lost-alone c d u v h = let n = may-end left bound d in omega arith
 
-  pub pays-on : (c d e f : Connection R) (u v w x : Turn J) → Pays left bound 3 c u d v → Spends left bound 0 d v e w → Spends left bound 0 e w f x → Pays left bound 3 c u f x
+  pub pays-on : (c d e f : Connection R) (u v w x : Progress J) → Pays left bound 3 c u d v → Spends left bound 0 d v e w → Spends left bound 0 e w f x → Pays left bound 3 c u f x
   pays-on c d e f u v w x h k l = omega arith
 
-  pub paid-spends : (n : ℕ) (c c' : Connection R) (u u' : Turn J) → Pays left bound n c u c' u' → Spends left bound 0 c u c' u'
+  pub paid-spends : (n : ℕ) (c c' : Connection R) (u u' : Progress J) → Pays left bound n c u c' u' → Spends left bound 0 c u c' u'
   paid-spends n c c' u u' h = omega arith
 
   -- the run paid for its answer, and for the socket that it opened
-  pub answered-falls : (c d e c' : Connection R) (u v u' : Turn J) → whole left bound d ≤ whole left bound c + 2 → Pays left bound unit d u e v → Costs left bound 5 e v c' u'
+  pub answered-falls : (c d e c' : Connection R) (u v u' : Progress J) → whole left bound d ≤ whole left bound c + 2 → Pays left bound unit d u e v → Costs left bound 5 e v c' u'
       → Falls left bound c u c' u'
   answered-falls c d e c' u v u' few h k = let n = units-hold in omega arith

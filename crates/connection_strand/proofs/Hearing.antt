@@ -26,7 +26,7 @@ use Rattle.connection_plan.specs.Conditions.{AgreesWithin}
 use Rattle.connection_plan.specs.Turns.{is_there, is_all_taken, change, send, begin, begin_timer, end_timer, finish, close_if_taken, refuse, wait_for, heard_by, next}
 use Rattle.connection_strand.specs.Views.{View, service}
 use Rattle.connection_strand.specs.declared.state.Connection.{Connection}
-use Rattle.connection_strand.specs.declared.state.Turn.{Turn}
+use Rattle.connection_strand.specs.declared.state.Progress.{Progress}
 use Rattle.connection_strand.specs.Kept.{Kept, kept, kept_of, waits_of, all_taken, stage_waiting, timer_waiting}
 use Rattle.connection_strand.specs.Standing.{Moment, plain, HasRun, Serves, Toward, IsOn, IsFree, before, places}
 use Rattle.connection_strand.specs.Turns.{Took, IsRefusedAt, IsAnswered}
@@ -34,7 +34,7 @@ use Rattle.connection_strand.proofs.Moving.{IsSameRun}
 use Rattle.connection_strand.proofs.Telling.{took-turn}
 
 module _ {R J I : Type 0} (v : View R J I) where
-  abbrev pub To : Moment J → Performed J (Both I) → Connection R → Turn J → Move J (Both I) → Type 0
+  abbrev pub To : Moment J → Performed J (Both I) → Connection R → Progress J → Move J (Both I) → Type 0
   To e did c u m = Toward v e did c u m
 
   -- where no run is nothing of one is left
@@ -71,7 +71,7 @@ module _ {R J I : Type 0} (v : View R J I) where
   on-free stage.Over f = absurd f
 
   -- it goes to another stage without a run
-  pub restages : (f : Client → Client) (k : Kept → Kept) (st st' : Stage) (did : Performed J (Both I)) (c c' : Connection R) (u : Turn J) (m : Move J (Both I)) → IsFree st → IsFree st'
+  pub restages : (f : Client → Client) (k : Kept → Kept) (st st' : Stage) (did : Performed J (Both I)) (c c' : Connection R) (u : Progress J) (m : Move J (Both I)) → IsFree st → IsFree st'
       → ((b : Ledger J) (x : Client) → k (kept_of b x) ≡ kept_of b (f x)) → ((x : Client) → (f x).stage ≡ st') → IsSameRun c c' → kept c'.client ≡ k (kept c.client)
       → To (plain st) did c u (change f m) → To (plain st') did c' u m
   restages f k st st' did c c' u m free free' so goes same client h =
@@ -104,7 +104,7 @@ module _ {R J I : Type 0} (v : View R J I) where
       }
 
   -- a request begins
-  pub begins-request : (lawful : IsRun v.meaning.plan v.meaning.holds) (now : ℕ) (st : Stage) (head : Head) (target : Target) (next : RunTurn J) (did : Performed J (Both I)) (c c' : Connection R) (u : Turn J) (m : Move J (Both I)) (run : R)
+  pub begins-request : (lawful : IsRun v.meaning.plan v.meaning.holds) (now : ℕ) (st : Stage) (head : Head) (target : Target) (next : RunTurn J) (did : Performed J (Both I)) (c c' : Connection R) (u : Progress J) (m : Move J (Both I)) (run : R)
       → IsFree st → calls.Begins v.meaning now c.count head target run next → c'.run ≡ Some run → waits_of c'.waits ≡ waits_at_first true
       → c'.sockets ≡ c.sockets → c'.count ≡ c.count → c'.keeping ≡ c.keeping → c'.is_taking ≡ c.is_taking
       → kept c'.client ≡ record (kept c.client) { stage = stage.Busy; times = v.serving.times_of head target; reply = stage.Unsent; expects = head.expects; waited = false }
@@ -132,7 +132,7 @@ module _ {R J I : Type 0} (v : View R J I) where
 
   -- ---- what is waited for
 
-  abbrev looks : (go : Ledger J → Both I → Move J (Both I)) (n : Move J (Both I)) (e : Moment J) (did : Performed J (Both I)) (c : Connection R) (u : Turn J)
+  abbrev looks : (go : Ledger J → Both I → Move J (Both I)) (n : Move J (Both I)) (e : Moment J) (did : Performed J (Both I)) (c : Connection R) (u : Progress J)
       → (h : To e did c u (Look go)) → go h.ledger h.inner ≡ n → To e did c u n
   looks go n e did c u h is = record {
     ledger = h.ledger;
@@ -153,7 +153,7 @@ module _ {R J I : Type 0} (v : View R J I) where
   waits-free held.Nothing = tt
   waits-free held.Begun = tt
 
-  pub waits-so : (now : ℕ) (st : Stage) (did : Performed J (Both I)) (c c' : Connection R) (u : Turn J) (x : Held) (t : Timer) → x ≡ held_in (kept c.client).came.at (kept c.client).came.held
+  pub waits-so : (now : ℕ) (st : Stage) (did : Performed J (Both I)) (c c' : Connection R) (u : Progress J) (x : Held) (t : Timer) → x ≡ held_in (kept c.client).came.at (kept c.client).came.held
       → IsFree st → IsSameRun c c' → kept c'.client ≡ record (kept c.client) { stage = stage_waiting x } → t ≡ timer_waiting x
       → To (plain st) did c u (Look (λ b s. wait_for (service v) now (held_in s.client.came.at s.client.came.held))) → To (plain (stage_waiting x)) did c' u (begin_timer (service v) now t Done)
   waits-so now st did c c' u x t is free same client timed h =
@@ -171,10 +171,10 @@ module _ {R J I : Type 0} (v : View R J I) where
   refused-at now code line.Head bytes x h e = absurd h
   refused-at now code (line.Present body kind skips) bytes x h e = absurd h
 
-  abbrev pub Refuses : ℕ → ℕ → Moment J → Performed J (Both I) → Connection R → Turn J → Type 0
+  abbrev pub Refuses : ℕ → ℕ → Moment J → Performed J (Both I) → Connection R → Progress J → Type 0
   Refuses now code e did c u = To e did c u (Look (λ b s. end_timer (service v) now timer.Header (refuse (service v) now s.client.came.at code)))
 
-  pub refuses-head : (now code : ℕ) (e : Moment J) (did : Performed J (Both I)) (c : Connection R) (u : Turn J) (x : Held) → IsRefusedAt (kept c.client).came.at
+  pub refuses-head : (now code : ℕ) (e : Moment J) (did : Performed J (Both I)) (c : Connection R) (u : Progress J) (x : Held) → IsRefusedAt (kept c.client).came.at
       → x ≡ held_in (kept c.client).came.at (kept c.client).came.held → x ≡ held.Begun
       → Refuses now code e did c u → To e did c u (end_timer (service v) now timer.Header (refuse (service v) now (line.Over code) code))
   refuses-head now code e did c u x at is begun h =
@@ -182,7 +182,7 @@ module _ {R J I : Type 0} (v : View R J I) where
       looks _ _ e did c u h (ap (end_timer (service v) now timer.Header)
       (ap (λ (k : Came). refuse (service v) now k.at code) (sym came) ∙ (refused-at now code (kept c.client).came.at (kept c.client).came.held x at is).0 begun))
 
-  pub refuses-body : (now code : ℕ) (e : Moment J) (did : Performed J (Both I)) (c : Connection R) (u : Turn J) (x : Held) → IsRefusedAt (kept c.client).came.at
+  pub refuses-body : (now code : ℕ) (e : Moment J) (did : Performed J (Both I)) (c : Connection R) (u : Progress J) (x : Held) → IsRefusedAt (kept c.client).came.at
       → x ≡ held_in (kept c.client).came.at (kept c.client).came.held → (x ≡ held.Begun → ⊥)
       → Refuses now code e did c u → To e did c u (end_timer (service v) now timer.Header finish)
   refuses-body now code e did c u x at is begun h =
@@ -190,7 +190,7 @@ module _ {R J I : Type 0} (v : View R J I) where
       looks _ _ e did c u h (ap (end_timer (service v) now timer.Header)
       (ap (λ (k : Came). refuse (service v) now k.at code) (sym came) ∙ (refused-at now code (kept c.client).came.at (kept c.client).came.held x at is).1 begun))
 
-  pub refuses-now : (now code : ℕ) (st : Stage) (did : Performed J (Both I)) (c c' : Connection R) (u : Turn J) (bytes : List ℕ) → IsFree st → IsSameRun c c'
+  pub refuses-now : (now code : ℕ) (st : Stage) (did : Performed J (Both I)) (c c' : Connection R) (u : Progress J) (bytes : List ℕ) → IsFree st → IsSameRun c c'
       → kept c'.client ≡ record (kept c.client) { stage = stage.Flush; times = v.serving.default_times; reply = stage.Whole true } → bytes ≡ v.serving.refusal code now
       → To (plain st) did c u (refuse (service v) now (line.Over code) code) → To (plain stage.Flush) did c' u (send (service v) 0 bytes (close_if_taken (service v) now))
   refuses-now now code st did c c' u bytes free same client is h =
@@ -208,47 +208,47 @@ module _ {R J I : Type 0} (v : View R J I) where
   ]
 
   -- all is taken, by what is kept
-  pub taken-is : (c : Connection R) (u : Turn J) (b : Ledger J) (s : Both I) → Serves c u b s → all_taken (kept c.client) ≡ is_all_taken b
+  pub taken-is : (c : Connection R) (u : Progress J) (b : Ledger J) (s : Both I) → Serves c u b s → all_taken (kept c.client) ≡ is_all_taken b
   taken-is c u b s w = ap all_taken w.client ∙ by (is_there b)
     where
       by : (o : Bool) → not (o && is_some_left (if o then left_at place.Client b else [])) ≡ not (o && is_some_left (left_at place.Client b))
       by true = refl
       by false = refl
 
-  pub closes : (now : ℕ) (e : Moment J) (did : Performed J (Both I)) (c : Connection R) (u : Turn J) (x : Bool) → all_taken (kept c.client) ≡ x
+  pub closes : (now : ℕ) (e : Moment J) (did : Performed J (Both I)) (c : Connection R) (u : Progress J) (x : Bool) → all_taken (kept c.client) ≡ x
       → To e did c u (close_if_taken (service v) now) → To e did c u (if x then finish else Done)
   closes now e did c u x is h =
       looks _ _ e did c u h (ap (λ (y : Bool). if y then finish else Done) (sym (taken-is c u h.ledger h.inner h.within.serves) ∙ is))
 
   -- ---- what is heard
 
-  abbrev pub Heard : ℕ → Bool → Move J (Both I) → LineOut → Moment J → Performed J (Both I) → Connection R → Turn J → Type 0
+  abbrev pub Heard : ℕ → Bool → Move J (Both I) → LineOut → Moment J → Performed J (Both I) → Connection R → Progress J → Type 0
   Heard now anew rest answer e did c u = To e did c u (Look (λ b s. heard_by (service v) now anew rest s.client.came s.client.ended answer))
 
-  abbrev pub heard-as : (now : ℕ) (anew : Bool) (rest : Move J (Both I)) (x y : LineOut) (e : Moment J) (did : Performed J (Both I)) (c : Connection R) (u : Turn J) → x ≡ y
+  abbrev pub heard-as : (now : ℕ) (anew : Bool) (rest : Move J (Both I)) (x y : LineOut) (e : Moment J) (did : Performed J (Both I)) (c : Connection R) (u : Progress J) → x ≡ y
       → Heard now anew rest x e did c u → Heard now anew rest y e did c u
   heard-as now anew rest x y e did c u is h = subst (λ (z : LineOut). Heard now anew rest z e did c u) is h
 
-  pub hears-request : (now : ℕ) (anew : Bool) (rest : Move J (Both I)) (x : LineOut) (head : Head) (target : Target) (e : Moment J) (did : Performed J (Both I)) (c : Connection R) (u : Turn J)
+  pub hears-request : (now : ℕ) (anew : Bool) (rest : Move J (Both I)) (x : LineOut) (head : Head) (target : Target) (e : Moment J) (did : Performed J (Both I)) (c : Connection R) (u : Progress J)
       → x ≡ out.Request head target → Heard now anew rest x e did c u → To e did c u (end_timer (service v) now timer.Header (begin (service v) now rest head target))
   hears-request now anew rest x head target e did c u is h =
       let g = heard-as now anew rest x (out.Request head target) e did c u is h in
       record { ledger = g.ledger; inner = g.inner; within = g.within; leads = g.leads }
 
-  pub hears-refusal : (now : ℕ) (anew : Bool) (rest : Move J (Both I)) (x : LineOut) (code : ℕ) (e : Moment J) (did : Performed J (Both I)) (c : Connection R) (u : Turn J)
+  pub hears-refusal : (now : ℕ) (anew : Bool) (rest : Move J (Both I)) (x : LineOut) (code : ℕ) (e : Moment J) (did : Performed J (Both I)) (c : Connection R) (u : Progress J)
       → x ≡ out.Refused code → Heard now anew rest x e did c u → Refuses now code e did c u
   hears-refusal now anew rest x code e did c u is h =
       let g = heard-as now anew rest x (out.Refused code) e did c u is h in
       record { ledger = g.ledger; inner = g.inner; within = g.within; leads = g.leads }
 
-  pub hears-end : (now : ℕ) (anew : Bool) (rest : Move J (Both I)) (x : LineOut) (e : Moment J) (did : Performed J (Both I)) (c : Connection R) (u : Turn J)
+  pub hears-end : (now : ℕ) (anew : Bool) (rest : Move J (Both I)) (x : LineOut) (e : Moment J) (did : Performed J (Both I)) (c : Connection R) (u : Progress J)
       → x ≡ out.Waiting → c.client.has_ended ≡ true → Heard now anew rest x e did c u → To e did c u finish
   hears-end now anew rest x e did c u is ended h =
       let g = heard-as now anew rest x out.Waiting e did c u is h in
       looks _ _ e did c u g (ap (λ (y : Bool). if y then finish else (if anew then wait_for (service v) now (held_in g.inner.client.came.at g.inner.client.came.held) else Done))
       (sym (ap (λ (k : Kept). k.ended) g.within.serves.client) ∙ ended))
 
-  pub hears-waiting : (now : ℕ) (anew y : Bool) (rest : Move J (Both I)) (x : LineOut) (e : Moment J) (did : Performed J (Both I)) (c : Connection R) (u : Turn J)
+  pub hears-waiting : (now : ℕ) (anew y : Bool) (rest : Move J (Both I)) (x : LineOut) (e : Moment J) (did : Performed J (Both I)) (c : Connection R) (u : Progress J)
       → x ≡ out.Waiting → c.client.has_ended ≡ false → anew ≡ y → Heard now anew rest x e did c u
       → To e did c u (Look (λ b s. if y then wait_for (service v) now (held_in s.client.came.at s.client.came.held) else Done))
   hears-waiting now anew y rest x e did c u is ended anew-is h =
@@ -257,7 +257,7 @@ module _ {R J I : Type 0} (v : View R J I) where
       let n = looks _ (waits y) e did c u g (ap (λ (z : Bool). if z then finish else waits anew) (sym (ap (λ (k : Kept). k.ended) g.within.serves.client) ∙ ended) ∙ ap waits anew-is) in
       record { ledger = n.ledger; inner = n.inner; within = n.within; leads = n.leads }
 
-  pub hears-nothing : (now : ℕ) (anew : Bool) (rest : Move J (Both I)) (x : LineOut) (e : Moment J) (did : Performed J (Both I)) (c : Connection R) (u : Turn J)
+  pub hears-nothing : (now : ℕ) (anew : Bool) (rest : Move J (Both I)) (x : LineOut) (e : Moment J) (did : Performed J (Both I)) (c : Connection R) (u : Progress J)
       → x ≡ out.Waiting → c.client.has_ended ≡ false → anew ≡ false → Heard now anew rest x e did c u → To e did c u Done
   hears-nothing now anew rest x e did c u is ended anew-is h =
       let n = hears-waiting now anew false rest x e did c u is ended anew-is h in

@@ -26,7 +26,7 @@ use Rattle.connection_strand.specs.declared.client.Stage as code
 use Rattle.connection_strand.specs.declared.client.Stage.TheVariants as own
 use Rattle.connection_strand.specs.Views.{View, service}
 use Rattle.connection_strand.specs.declared.state.Connection.{Connection}
-use Rattle.connection_strand.specs.declared.state.Turn.{Turn}
+use Rattle.connection_strand.specs.declared.state.Progress.{Progress}
 use Rattle.connection_strand.specs.Acts.{hang_ups}
 use Rattle.connection_strand.specs.Kept.{Kept, kept, kept_of, waits_of, stage_of}
 use Rattle.connection_strand.specs.Standing.{Moment, plain, Serves, Within, Toward, Came, Goes, IsAt, before, places}
@@ -72,10 +72,10 @@ ending-places true ks = ap (λ xs. act.HangUp place.Client ∷ xs) (ending-socks
 ending-places false ks = ending-socks ks
 
 module _ {R J I : Type 0} (v : View R J I) where
-  abbrev pub To : Moment J → Performed J (Both I) → Connection R → Turn J → Move J (Both I) → Type 0
+  abbrev pub To : Moment J → Performed J (Both I) → Connection R → Progress J → Move J (Both I) → Type 0
   To e did c u m = Toward v e did c u m
 
-  pub finishes : (st : Stage) (did : Performed J (Both I)) (c c' : Connection R) (u u' : Turn J) (acts acts' : List (Act J))
+  pub finishes : (st : Stage) (did : Performed J (Both I)) (c c' : Connection R) (u u' : Progress J) (acts acts' : List (Act J))
       → acts ≡ u.acts.items ++ client_act c.client.is_open → acts' ≡ acts ++ hang_ups c.sockets.items → u'.acts.items ≡ acts' ++ act.Gone ∷ []
       → To (plain st) did c u finish → Came v did c' u'
   finishes st did c c' u u' acts acts' first others gone h =
@@ -97,7 +97,7 @@ module _ {R J I : Type 0} (v : View R J I) where
       })
 
   -- moves that are made leave it within the turn
-  pub goes-at : (f : Move J (Both I) → Move J (Both I)) (st : Stage) (c c' : Connection R) (u u' : Turn J) → Goes v f c u c' u'
+  pub goes-at : (f : Move J (Both I) → Move J (Both I)) (st : Stage) (c c' : Connection R) (u u' : Progress J) → Goes v f c u c' u'
       → IsAt v st c u → IsAt v st c' u'
   goes-at f st c c' u u' goes h =
       let did = before u.acts.items (perform (f Done) h.0 h.1) in
@@ -110,13 +110,13 @@ module _ {R J I : Type 0} (v : View R J I) where
   abbrev pub MayTell : ℕ → RunSeen → Connection R → Type 0
   MayTell now x c = (b : Ledger J) (r : I) → b.asked ≡ None → waits_of c.waits ≡ v.meaning.plan.waits r → (entered_as x b ≡ b) × MayCome v.meaning.plan now x b r
 
-  pub may-tell : (now : ℕ) (x : RunSeen) (c : Connection R) (u : Turn J) → MayTell now x c → IsAt v stage.Busy c u
+  pub may-tell : (now : ℕ) (x : RunSeen) (c : Connection R) (u : Progress J) → MayTell now x c → IsAt v stage.Busy c u
       → (run : R) → c.run ≡ Some run → calls.MayBeTold v.meaning now x run
   may-tell now x c u may h run is =
       let mine : h.2.run.0 ≡ run = (let g : Some h.2.run.0 ≡ Some run = sym h.2.run.1 ∙ is in cc) in
       (h.0, h.1.run, subst (λ (y : R). v.meaning.stands y h.0 h.1.run) mine h.2.run.2, h.2.known, (may h.0 h.1.run h.2.serves.none_asked h.2.run.3).1)
 
-  pub tells : (now : ℕ) (x : RunSeen) (did : Performed J (Both I)) (c : Connection R) (u : Turn J) (m : Move J (Both I)) → MayTell now x c
+  pub tells : (now : ℕ) (x : RunSeen) (did : Performed J (Both I)) (c : Connection R) (u : Progress J) (m : Move J (Both I)) → MayTell now x c
       → To (plain stage.Busy) did c u (tell (service v) now x m) → Told v now x did c u m
   tells now x did c u m may h =
       let b = h.ledger in
@@ -154,7 +154,7 @@ module _ {R J I : Type 0} (v : View R J I) where
     places-left true ks = socks-left ks
     places-left false ks = socks-left ks
 
-    pub hangs-up : (e : Moment J) (did : Performed J (Both I)) (c c' : Connection R) (u u' : Turn J) (m : Move J (Both I)) → IsSameRun c c' → c.client.is_open ≡ true
+    pub hangs-up : (e : Moment J) (did : Performed J (Both I)) (c c' : Connection R) (u u' : Progress J) (m : Move J (Both I)) → IsSameRun c c' → c.client.is_open ≡ true
         → kept c'.client ≡ record (kept c.client) { opened = false; sending = queues.dropped (kept c.client).sending } → u'.acts.items ≡ u.acts.items ++ act.HangUp place.Client ∷ []
         → To e did c u (HangUp place.Client m) → To e did c' u' m
     hangs-up e did c c' u u' m same opened client acts h =
@@ -183,7 +183,7 @@ module _ {R J I : Type 0} (v : View R J I) where
               (h.leads ∙ ap (λ o. before u.acts.items (after_act_if o (act.HangUp place.Client) (perform m b' s))) there);
         }
 
-    pub hangs-not : (e : Moment J) (did : Performed J (Both I)) (c : Connection R) (u : Turn J) (m : Move J (Both I)) → c.client.is_open ≡ false
+    pub hangs-not : (e : Moment J) (did : Performed J (Both I)) (c : Connection R) (u : Progress J) (m : Move J (Both I)) → c.client.is_open ≡ false
         → To e did c u (HangUp place.Client m) → To e did c u m
     hangs-not e did c u m shut h =
         let b = h.ledger in
@@ -197,7 +197,7 @@ module _ {R J I : Type 0} (v : View R J I) where
               ∙ ap (λ ps. before u.acts.items (perform m (record b { opened = ps }) s)) (without-none place.Client b.opened none);
         }
 
-    pub hangs-up-if : (o : Bool) (e : Moment J) (did : Performed J (Both I)) (c c' : Connection R) (u u' : Turn J) (m : Move J (Both I)) → IsSameRun c c' → c.client.is_open ≡ o
+    pub hangs-up-if : (o : Bool) (e : Moment J) (did : Performed J (Both I)) (c c' : Connection R) (u u' : Progress J) (m : Move J (Both I)) → IsSameRun c c' → c.client.is_open ≡ o
         → kept c'.client ≡ (if o then record (kept c.client) { opened = false; sending = queues.dropped (kept c.client).sending } else kept c.client)
         → u'.is_offered ≡ u.is_offered → u'.acts.items ≡ u.acts.items ++ client_act o → To e did c u (HangUp place.Client m) → To e did c' u' m
     hangs-up-if true e did c c' u u' m same opened client offered acts h = hangs-up e did c c' u u' m same opened client acts h
@@ -215,7 +215,7 @@ module _ {R J I : Type 0} (v : View R J I) where
   not-busy now stage.Over s h = refl
 
   -- without a run the life is over
-  pub loses-free : (now : ℕ) (st : Stage) (did : Performed J (Both I)) (c : Connection R) (u : Turn J) → ((kept c.client).stage ≡ stage.Busy → ⊥)
+  pub loses-free : (now : ℕ) (st : Stage) (did : Performed J (Both I)) (c : Connection R) (u : Progress J) → ((kept c.client).stage ≡ stage.Busy → ⊥)
       → To (plain st) did c u (lose (service v) now) → To (plain st) did c u finish
   loses-free now st did c u free h =
       let b = h.ledger in
@@ -242,7 +242,7 @@ module _ {R J I : Type 0} (v : View R J I) where
       by true = ap (after_act (act.Cancel (number_of t))) (f (without_deadline (number_of t) b))
       by false = f b
 
-  pub loses-busy : (now : ℕ) (st : Stage) (did : Performed J (Both I)) (c : Connection R) (u : Turn J) → (kept c.client).stage ≡ stage.Busy
+  pub loses-busy : (now : ℕ) (st : Stage) (did : Performed J (Both I)) (c : Connection R) (u : Progress J) → (kept c.client).stage ≡ stage.Busy
       → To (plain st) did c u (lose (service v) now)
       → To (plain stage.Busy) did c u (HangUp place.Client (end_timer (service v) now timer.Body (end_timer (service v) now timer.Send (tells_gone now))))
   loses-busy now st did c u busy h =
@@ -261,7 +261,7 @@ module _ {R J I : Type 0} (v : View R J I) where
             (ends-same now timer.Send told (tells_gone now) s (λ l. refl)) (hung_up place.Client b));
       }
 
-  pub tells-gone : (now : ℕ) (did : Performed J (Both I)) (c : Connection R) (u : Turn J) (x : Bool) → c.waits.client ≡ x
+  pub tells-gone : (now : ℕ) (did : Performed J (Both I)) (c : Connection R) (u : Progress J) (x : Bool) → c.waits.client ≡ x
       → To (plain stage.Busy) did c u (tells_gone now) → To (plain stage.Busy) did c u (told_gone now x)
   tells-gone now did c u x client h =
       let b = h.ledger in
@@ -273,7 +273,7 @@ module _ {R J I : Type 0} (v : View R J I) where
         leads = h.leads ∙ ap (λ (y : Bool). before u.acts.items (perform (told_gone now y) b s)) (sym (ap (λ (w : Waits). w.client) h.within.run.3) ∙ client);
       }
 
-  pub busy-at : (st : Stage) (c : Connection R) (u : Turn J) → (kept c.client).stage ≡ stage.Busy → IsAt v st c u → IsAt v stage.Busy c u
+  pub busy-at : (st : Stage) (c : Connection R) (u : Progress J) → (kept c.client).stage ≡ stage.Busy → IsAt v st c u → IsAt v stage.Busy c u
   busy-at st c u busy h =
       let at : st ≡ stage.Busy = sym h.2.at ∙ sym (ap (λ (k : Kept). k.stage) h.2.serves.client) ∙ busy in
       subst (λ (x : Stage). IsAt v x c u) at h
@@ -282,5 +282,5 @@ module _ {R J I : Type 0} (v : View R J I) where
   may-be-gone now c client asks b r none waits =
       (refl, (record { outside = none; within = sym (ap (λ (w : Waits). w.asks) waits) ∙ asks }, sym (ap (λ (w : Waits). w.client) waits) ∙ client))
 
-  pub has-run : (c : Connection R) (u : Turn J) → IsAt v stage.Busy c u → c.run ≡ None → ⊥
+  pub has-run : (c : Connection R) (u : Progress J) → IsAt v stage.Busy c u → c.run ≡ None → ⊥
   has-run c u h e = let f : None ≡ Some h.2.run.0 = sym e ∙ h.2.run.1 in cc

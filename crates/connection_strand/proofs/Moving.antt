@@ -26,7 +26,7 @@ use Rattle.connection_plan.proofs.Steps.{own-number, armed-same, cancelled-same}
 use Rattle.connection_plan.proofs.Stays.{within-alike}
 use Rattle.connection_strand.specs.Views.{View, service}
 use Rattle.connection_strand.specs.declared.state.Connection.{Connection}
-use Rattle.connection_strand.specs.declared.state.Turn.{Turn}
+use Rattle.connection_strand.specs.declared.state.Progress.{Progress}
 use Rattle.connection_strand.specs.Kept.{Kept, kept, waits_of, with_armed, is_armed}
 use Rattle.connection_strand.specs.Standing.{Moment, HasRun, Serves, Within, Toward, before, at_end, made_of, places}
 use Rattle.connection_strand.proofs.Deadlines.{is-armed, arms, disarms}
@@ -106,7 +106,7 @@ module _ {R J I : Type 0} (v : View R J I)
   run-alike stage.Over o p w x b c r e f same h = tt
 
   -- what concerns only the client leaves what is known of the run, and what is left of its turn
-  pub stays-within : (e : Moment J) (c c' : Connection R) (u u' : Turn J) (b b' : Ledger J) (s s' : Both I)
+  pub stays-within : (e : Moment J) (c c' : Connection R) (u u' : Progress J) (b b' : Ledger J) (s s' : Both I)
       → Within v e c u b s → SameRun b b' → s'.run ≡ s.run → s'.client.stage ≡ s.client.stage → c'.run ≡ c.run → c'.waits ≡ c.waits
       → Serves c' u' b' s' → Within v e c' u' b' s'
   stays-within e c c' u u' b b' s s' h same run st crun waits serves =
@@ -124,7 +124,7 @@ module _ {R J I : Type 0} (v : View R J I)
       }
 
   -- nothing changed
-  pub as-it-was : (e : Moment J) (did : Performed J (Both I)) (c c' : Connection R) (u u' : Turn J) (m : Move J (Both I)) → IsSameRun c c' → kept c'.client ≡ kept c.client
+  pub as-it-was : (e : Moment J) (did : Performed J (Both I)) (c c' : Connection R) (u u' : Progress J) (m : Move J (Both I)) → IsSameRun c c' → kept c'.client ≡ kept c.client
       → u'.is_offered ≡ u.is_offered → u'.acts.items ≡ u.acts.items → Toward v e did c u m → Toward v e did c' u' m
   as-it-was e did c c' u u' m same client offered acts h =
       let b = h.ledger in
@@ -150,7 +150,7 @@ module _ {R J I : Type 0} (v : View R J I)
 
   -- ---- timers
 
-  pub begins : (now : ℕ) (t : Timer) (e : Moment J) (did : Performed J (Both I)) (c c' : Connection R) (u u' : Turn J) (m : Move J (Both I)) (time : ℕ)
+  pub begins : (now : ℕ) (t : Timer) (e : Moment J) (did : Performed J (Both I)) (c c' : Connection R) (u u' : Progress J) (m : Move J (Both I)) (time : ℕ)
       → IsSameRun c c' → kept c'.client ≡ with_armed t true (kept c.client) → u'.is_offered ≡ u.is_offered
       → time ≡ time_of v.serving.default_times (kept c.client).times t → u'.acts.items ≡ u.acts.items ++ act.Arm (number_of t) (later now time) ∷ []
       → Toward v e did c u (begin_timer (service v) now t m) → Toward v e did c' u' m
@@ -180,7 +180,7 @@ module _ {R J I : Type 0} (v : View R J I)
             (acts ∙ ap (λ n. u.acts.items ++ act.Arm (number_of t) (later now n) ∷ []) is) h.leads;
       }
 
-  ends-armed : (now : ℕ) (t : Timer) (e : Moment J) (did : Performed J (Both I)) (c c' : Connection R) (u u' : Turn J) (m : Move J (Both I))
+  ends-armed : (now : ℕ) (t : Timer) (e : Moment J) (did : Performed J (Both I)) (c c' : Connection R) (u u' : Progress J) (m : Move J (Both I))
       → IsSameRun c c' → is_armed t (kept c.client) ≡ true → kept c'.client ≡ with_armed t false (kept c.client) → u'.is_offered ≡ u.is_offered
       → u'.acts.items ≡ u.acts.items ++ act.Cancel (number_of t) ∷ []
       → Toward v e did c u (end_timer (service v) now t m) → Toward v e did c' u' m
@@ -209,7 +209,7 @@ module _ {R J I : Type 0} (v : View R J I)
             (h.leads ∙ ap (λ (x : Bool). before u.acts.items (perform (if x then move.Cancel (number_of t) m else m) b s)) there);
       }
 
-  ends-unarmed : (now : ℕ) (t : Timer) (e : Moment J) (did : Performed J (Both I)) (c : Connection R) (u : Turn J) (m : Move J (Both I))
+  ends-unarmed : (now : ℕ) (t : Timer) (e : Moment J) (did : Performed J (Both I)) (c : Connection R) (u : Progress J) (m : Move J (Both I))
       → is_armed t (kept c.client) ≡ false → Toward v e did c u (end_timer (service v) now t m) → Toward v e did c u m
   ends-unarmed now t e did c u m armed h =
       let b = h.ledger in
@@ -222,7 +222,7 @@ module _ {R J I : Type 0} (v : View R J I)
         leads = h.leads ∙ ap (λ (x : Bool). before u.acts.items (perform (if x then move.Cancel (number_of t) m else m) b s)) none;
       }
 
-  pub ends-if : (o : Bool) (now : ℕ) (t : Timer) (e : Moment J) (did : Performed J (Both I)) (c c' : Connection R) (u u' : Turn J) (m : Move J (Both I))
+  pub ends-if : (o : Bool) (now : ℕ) (t : Timer) (e : Moment J) (did : Performed J (Both I)) (c c' : Connection R) (u u' : Progress J) (m : Move J (Both I))
       → IsSameRun c c' → is_armed t (kept c.client) ≡ o → kept c'.client ≡ with_armed t false (kept c.client) → u'.is_offered ≡ u.is_offered
       → u'.acts.items ≡ u.acts.items ++ (if o then act.Cancel (number_of t) ∷ [] else [])
       → Toward v e did c u (end_timer (service v) now t m) → Toward v e did c' u' m

@@ -18,7 +18,7 @@ use Rattle.connection_plan.specs.Services.{Both}
 use Rattle.connection_plan.specs.Turns.{heard_by, next}
 use Rattle.connection_strand.specs.Views.{View, service}
 use Rattle.connection_strand.specs.declared.state.Connection.{Connection}
-use Rattle.connection_strand.specs.declared.state.Turn.{Turn}
+use Rattle.connection_strand.specs.declared.state.Progress.{Progress}
 use Rattle.connection_strand.specs.Kept.{Kept, kept}
 use Rattle.connection_strand.specs.Standing.{plain, before}
 use Rattle.connection_strand.specs.Turns.{IsAnswered}
@@ -47,7 +47,7 @@ fed-answered before after piece answer h =
 
 module _ {R J I : Type 0} (v : View R J I)
     (lawful : IsRun v.meaning.plan v.meaning.holds) (apart : (x : R) (b c : Ledger J) (r : I) → AreAlike b c → v.meaning.stands x b r → v.meaning.stands x c r) where
-  pub nexts : (now : ℕ) (answer : LineOut) (st : Stage) (did : Performed J (Both I)) (c c' : Connection R) (u : Turn J) (m : Move J (Both I)) → IsSameRun c c'
+  pub nexts : (now : ℕ) (answer : LineOut) (st : Stage) (did : Performed J (Both I)) (c c' : Connection R) (u : Progress J) (m : Move J (Both I)) → IsSameRun c c'
       → IsFed (done (kept c.client).came) [] answer (kept c'.client).came → kept c'.client ≡ record (kept c.client) { came = (kept c'.client).came }
       → To v (plain st) did c u (Look (λ b s. next (service v) now m s.client)) → Heard v now true m answer (plain st) did c' u
   nexts now answer st did c c' u m same is client h =

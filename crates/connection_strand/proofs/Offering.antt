@@ -21,7 +21,7 @@ use Rattle.connection_plan.proofs.Lifted.{SameRun}
 use Rattle.connection_plan.proofs.Steps.{sent-to-client-same}
 use Rattle.connection_strand.specs.Views.{View, service}
 use Rattle.connection_strand.specs.declared.state.Connection.{Connection}
-use Rattle.connection_strand.specs.declared.state.Turn.{Turn}
+use Rattle.connection_strand.specs.declared.state.Progress.{Progress}
 use Rattle.connection_strand.specs.Kept.{Kept, kept, kept_of, sending_of, wants_offer}
 use Rattle.connection_strand.specs.Standing.{Moment, Serves, Toward, before, places}
 use Rattle.connection_strand.proofs.Moving.{IsSameRun, one-more, stays-within}
@@ -56,16 +56,16 @@ and-none false d h = refl
 
 module _ {R J I : Type 0} (v : View R J I)
     (lawful : IsRun v.meaning.plan v.meaning.holds) (apart : (x : R) (b c : Ledger J) (r : I) → AreAlike b c → v.meaning.stands x b r → v.meaning.stands x c r) where
-  abbrev pub To : Moment J → Performed J (Both I) → Connection R → Turn J → Move J (Both I) → Type 0
+  abbrev pub To : Moment J → Performed J (Both I) → Connection R → Progress J → Move J (Both I) → Type 0
   To e did c u m = Toward v e did c u m
 
-  is-wanted : (c : Connection R) (u : Turn J) (b : Ledger J) (s : Both I) → Serves c u b s → ledgers.wants_offer place.Client b ≡ (wants_offer (kept c.client) && not u.is_offered)
+  is-wanted : (c : Connection R) (u : Progress J) (b : Ledger J) (s : Both I) → Serves c u b s → ledgers.wants_offer place.Client b ≡ (wants_offer (kept c.client) && not u.is_offered)
   is-wanted c u b s w =
       wanted (is_there b) (is_some_left (left_at place.Client b)) (b.put_off place.Client) (has_offer place.Client b) u.is_offered w.offered
       ∙ ap (λ x. (x && not (b.put_off place.Client)) && not u.is_offered) (sym (left-there (is_there b) (left_at place.Client b)))
       ∙ ap (λ (k : Kept). wants_offer k && not u.is_offered) (sym w.client)
 
-  offered-leads : (e : Moment J) (did : Performed J (Both I)) (c : Connection R) (u : Turn J) (m : Move J (Both I)) (h : Toward v e did c u (Send place.Client [] m))
+  offered-leads : (e : Moment J) (did : Performed J (Both I)) (c : Connection R) (u : Progress J) (m : Move J (Both I)) (h : Toward v e did c u (Send place.Client [] m))
       → (x : Bool) → ledgers.wants_offer place.Client h.ledger ≡ x
       → did ≡ before u.acts.items (after_act_if x (act.Offer place.Client) (perform m (with_offer place.Client h.ledger) h.inner))
   offered-leads e did c u m h x is =
@@ -77,7 +77,7 @@ module _ {R J I : Type 0} (v : View R J I)
   offer-same b = subst (λ (d : Ledger J). SameRun b (with_offer place.Client d)) (sends-nothing place.Client b) (sent-to-client-same [] b)
 
   -- the offer is asked for
-  pub offers : (e : Moment J) (did : Performed J (Both I)) (c c' : Connection R) (u u' : Turn J) (m : Move J (Both I))
+  pub offers : (e : Moment J) (did : Performed J (Both I)) (c c' : Connection R) (u u' : Progress J) (m : Move J (Both I))
       → IsSameRun c c' → kept c'.client ≡ kept c.client → (wants_offer (kept c.client) && not u.is_offered) ≡ true → u'.is_offered ≡ true
       → u'.acts.items ≡ u.acts.items ++ act.Offer place.Client ∷ [] → To e did c u (Send place.Client [] m) → To e did c' u' m
   offers e did c c' u u' m same client wants offered acts h =
@@ -106,7 +106,7 @@ module _ {R J I : Type 0} (v : View R J I)
       }
 
   -- none is wanted
-  pub offers-not : (e : Moment J) (did : Performed J (Both I)) (c : Connection R) (u : Turn J) (m : Move J (Both I))
+  pub offers-not : (e : Moment J) (did : Performed J (Both I)) (c : Connection R) (u : Progress J) (m : Move J (Both I))
       → (wants_offer (kept c.client) && not u.is_offered) ≡ false → To e did c u (Send place.Client [] m) → To e did c u m
   offers-not e did c u m wants h =
       let b = h.ledger in
@@ -153,7 +153,7 @@ module _ {R J I : Type 0} (v : View R J I)
   }
 
   -- bytes are queued, before an offer is asked for
-  pub queues-more : (e : Moment J) (did : Performed J (Both I)) (c c' : Connection R) (u : Turn J) (bytes : List ℕ) (m : Move J (Both I))
+  pub queues-more : (e : Moment J) (did : Performed J (Both I)) (c c' : Connection R) (u : Progress J) (bytes : List ℕ) (m : Move J (Both I))
       → IsSameRun c c' → c.client.is_open ≡ true → kept c'.client ≡ record (kept c.client) { sending = queues.queued (kept c.client).sending bytes }
       → To e did c u (send (service v) 0 bytes m) → To e did c' u (Send place.Client [] m)
   queues-more e did c c' u bytes m same opened client h =
@@ -185,7 +185,7 @@ module _ {R J I : Type 0} (v : View R J I)
       }
 
   -- a client that isn't there is sent nothing
-  pub queues-not : (e : Moment J) (did : Performed J (Both I)) (c : Connection R) (u : Turn J) (bytes : List ℕ) (m : Move J (Both I))
+  pub queues-not : (e : Moment J) (did : Performed J (Both I)) (c : Connection R) (u : Progress J) (bytes : List ℕ) (m : Move J (Both I))
       → c.client.is_open ≡ false → To e did c u (send (service v) 0 bytes m) → To e did c u m
   queues-not e did c u bytes m shut h =
       let b = h.ledger in

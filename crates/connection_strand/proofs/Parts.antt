@@ -26,7 +26,7 @@ use Rattle.connection_plan.specs.Conditions.{AgreesWithin}
 use Rattle.connection_plan.proofs.OwnMoves.{LeavesClient, deed-leaves-client}
 use Rattle.connection_strand.specs.Views.{View, service}
 use Rattle.connection_strand.specs.declared.state.Connection.{Connection}
-use Rattle.connection_strand.specs.declared.state.Turn.{Turn}
+use Rattle.connection_strand.specs.declared.state.Progress.{Progress}
 use Rattle.connection_strand.specs.Acts.{is_question, kept_with, sockets_after}
 use Rattle.connection_strand.specs.Kept.{kept, kept_of, waits_of}
 use Rattle.connection_strand.specs.Standing.{plain, taking, HasRun, Serves, Toward, Came, Went, before, at_end, places, kept_sock}
@@ -186,7 +186,7 @@ is-deed (Say w) b h = absurd h
 -- ---- in code
 
 -- it took the act
-pub record TookAct {R J : Type 0} (a : Act J) (c c' : Connection R) (u u' : Turn J) : Type 0 where
+pub record TookAct {R J : Type 0} (a : Act J) (c c' : Connection R) (u u' : Progress J) : Type 0 where
   pub sockets : c'.sockets.items ≡ sockets_after a c.sockets.items
   pub keeping : c'.keeping ≡ kept_with a c.keeping
   pub kept : c' ≡ record c { sockets = c'.sockets; keeping = c'.keeping }
@@ -194,7 +194,7 @@ pub record TookAct {R J : Type 0} (a : Act J) (c c' : Connection R) (u u' : Turn
   pub acts : u'.acts.items ≡ u.acts.items ++ a ∷ []
 
 -- it did what a deed came to, which may be nothing
-record DidAct {R J : Type 0} (a : Option (Act J)) (c c' : Connection R) (u u' : Turn J) : Type 0 where
+record DidAct {R J : Type 0} (a : Option (Act J)) (c c' : Connection R) (u u' : Progress J) : Type 0 where
   sockets : c'.sockets.items ≡ socks_if a c.sockets.items
   kept : c' ≡ record c { sockets = c'.sockets }
   offered : u'.is_offered ≡ u.is_offered
@@ -208,7 +208,7 @@ module _ {R J I : Type 0} (v : View R J I) (now : ℕ) where
   abbrev speaks : Said → Move J (Both I) → Move J (Both I)
   speaks = says (service v) now
 
-  serves-on : (d : Deed) (c c' : Connection R) (u u' : Turn J) (b : Ledger J) (s : Both I) → IsDeed d b → Serves c u b s → DidAct (act_of d b) c c' u u' → Serves c' u' (ledger_by d b) s
+  serves-on : (d : Deed) (c c' : Connection R) (u u' : Progress J) (b : Ledger J) (s : Both I) → IsDeed d b → Serves c u b s → DidAct (act_of d b) c c' u u' → Serves c' u' (ledger_by d b) s
   serves-on d c c' u u' b s h w x =
       let l = deed-leaves-client d b in
       record {
@@ -230,7 +230,7 @@ module _ {R J I : Type 0} (v : View R J I) (now : ℕ) where
   left-after xs (y ∷ ys) zs rest e f = left-after ys ys zs rest refl (let g : y ∷ (ys ++ rest) ≡ y ∷ (ys ++ zs) = f ∙ ap (λ ws. ws ++ zs) e in cc)
 
   -- a deed that is no word is done
-  deed-done : (d : Deed) (ds : List Deed) (a : Asks J) (st : Stage) (rest rest' : List (RunAct J)) (did : Performed J (Both I)) (c c' : Connection R) (u u' : Turn J) (m : Move J (Both I)) → IsAct d
+  deed-done : (d : Deed) (ds : List Deed) (a : Asks J) (st : Stage) (rest rest' : List (RunAct J)) (did : Performed J (Both I)) (c c' : Connection R) (u u' : Progress J) (m : Move J (Both I)) → IsAct d
       → (h : TowardBy v now st (d ∷ ds) a rest did c u m) → DidAct (act_of d h.ledger) c c' u u' → rest ≡ acts_made (option_to_list (act_of d h.ledger)) ++ rest'
       → TowardBy v now st ds a rest' did c' u' m
   deed-done d ds a st rest rest' did c c' u u' m is h x parts =
@@ -268,9 +268,9 @@ module _ {R J I : Type 0} (v : View R J I) (now : ℕ) where
   not-none x xs e = absurd (cc)
 
   -- it is an act that the connection takes, or a word that it hears
-  abbrev NextIs : RunAct J → List (RunAct J) → Performed J (Both I) → Connection R → Turn J → Move J (Both I) → Type 0
+  abbrev NextIs : RunAct J → List (RunAct J) → Performed J (Both I) → Connection R → Progress J → Move J (Both I) → Type 0
   NextIs x rest did c u m =
-      ((b : Act J) × (x ≡ made.Act b) × ((c' : Connection R) (u' : Turn J) → TookAct b c c' u u' → Takes v now (not (is_question b)) rest did c' u' m))
+      ((b : Act J) × (x ≡ made.Act b) × ((c' : Connection R) (u' : Progress J) → TookAct b c c' u u' → Takes v now (not (is_question b)) rest did c' u' m))
       ⊎ ((w : Said) × (x ≡ made.Say w) × (st : Stage) × (ds : List Deed) × (a : Asks J) × TowardBy v now st (Say w ∷ ds) a (made.Say w ∷ rest) did c u m)
 
   asking-calm : (y : Question J) → (is_question (question.asking y) ≡ true) × ((ks : List ℕ) → sockets_after (question.asking y) ks ≡ ks) × ((k : Option ℕ) → k ≡ None → kept_with (question.asking y) k ≡ kept_sock (Some y))
@@ -295,7 +295,7 @@ module _ {R J I : Type 0} (v : View R J I) (now : ℕ) where
   asked-act (question.Timer at job) = refl
 
   -- the question is asked, and the turn comes to its end
-  asked : (q y : Question J) (st : Stage) (rest : List (RunAct J)) (did : Performed J (Both I)) (c c' : Connection R) (u u' : Turn J) (m : Move J (Both I))
+  asked : (q y : Question J) (st : Stage) (rest : List (RunAct J)) (did : Performed J (Both I)) (c c' : Connection R) (u u' : Progress J) (m : Move J (Both I))
       → (h : TowardBy v now st [] (Outside q) rest did c u m) → asked_of q h.ledger ≡ Some y → TookAct (question.asking y) c c' u u' → Came v did c' u'
   asked q y st rest did c c' u u' m h is x =
       let b = h.ledger in
@@ -324,7 +324,7 @@ module _ {R J I : Type 0} (v : View R J I) (now : ℕ) where
       })
 
   -- all deeds are done: what is left is the question
-  last-part : (x : RunAct J) (rest : List (RunAct J)) (a : Asks J) (st : Stage) (did : Performed J (Both I)) (c : Connection R) (u : Turn J) (m : Move J (Both I))
+  last-part : (x : RunAct J) (rest : List (RunAct J)) (a : Asks J) (st : Stage) (did : Performed J (Both I)) (c : Connection R) (u : Progress J) (m : Move J (Both I))
       → TowardBy v now st [] a (x ∷ rest) did c u m → NextIs x rest did c u m
   last-part x rest Nothing st did c u m h = not-none x rest h.within.made
   last-part x rest (deed.Within q) st did c u m h = not-none x rest h.within.made
@@ -342,7 +342,7 @@ module _ {R J I : Type 0} (v : View R J I) (now : ℕ) where
           )
 
   -- a deed that is no word: its act is the next part, or it is none
-  act-part : (d : Deed) (x : RunAct J) (rest : List (RunAct J)) (ds : List Deed) (a : Asks J) (st : Stage) (did : Performed J (Both I)) (c : Connection R) (u : Turn J) (m : Move J (Both I)) → IsAct d
+  act-part : (d : Deed) (x : RunAct J) (rest : List (RunAct J)) (ds : List Deed) (a : Asks J) (st : Stage) (did : Performed J (Both I)) (c : Connection R) (u : Progress J) (m : Move J (Both I)) → IsAct d
       → (TowardBy v now st ds a (x ∷ rest) did c u m → NextIs x rest did c u m) → TowardBy v now st (d ∷ ds) a (x ∷ rest) did c u m → NextIs x rest did c u m
   act-part d x rest ds a st did c u m is others h = by (act_of d h.ledger) refl
     where
@@ -381,7 +381,7 @@ module _ {R J I : Type 0} (v : View R J I) (now : ℕ) where
                 ),
           )
 
-  next-part : (x : RunAct J) (rest : List (RunAct J)) (ds : List Deed) (a : Asks J) (st : Stage) (did : Performed J (Both I)) (c : Connection R) (u : Turn J) (m : Move J (Both I))
+  next-part : (x : RunAct J) (rest : List (RunAct J)) (ds : List Deed) (a : Asks J) (st : Stage) (did : Performed J (Both I)) (c : Connection R) (u : Progress J) (m : Move J (Both I))
       → TowardBy v now st ds a (x ∷ rest) did c u m → NextIs x rest did c u m
   next-part x rest [] a st did c u m h = last-part x rest a st did c u m h
   next-part x rest (Say w ∷ ds) a st did c u m h =
@@ -402,7 +402,7 @@ module _ {R J I : Type 0} (v : View R J I) (now : ℕ) where
   same-word w x y e f = let g = sym e ∙ f in cc
 
   -- it is this act
-  pub takes-act : (b : Act J) (rest : List (RunAct J)) (did : Performed J (Both I)) (c c' : Connection R) (u u' : Turn J) (m : Move J (Both I)) → TookAct b c c' u u'
+  pub takes-act : (b : Act J) (rest : List (RunAct J)) (did : Performed J (Both I)) (c c' : Connection R) (u u' : Progress J) (m : Move J (Both I)) → TookAct b c c' u u'
       → Takes v now true (made.Act b ∷ rest) did c u m → Takes v now (not (is_question b)) rest did c' u' m
   takes-act b rest did c c' u u' m took h = elim (next-part (made.Act b) rest h.1 h.2 h.0 did c u m h.3) [
     | inl n ↦ let e = same-act b n.0 n.1 in
@@ -411,7 +411,7 @@ module _ {R J I : Type 0} (v : View R J I) (now : ℕ) where
   ]
 
   -- or this word
-  pub takes-word : (w : Said) (rest : List (RunAct J)) (did : Performed J (Both I)) (c c' : Connection R) (u u' : Turn J) (m : Move J (Both I)) → HearsWord v now w c u c' u'
+  pub takes-word : (w : Said) (rest : List (RunAct J)) (did : Performed J (Both I)) (c c' : Connection R) (u u' : Progress J) (m : Move J (Both I)) → HearsWord v now w c u c' u'
       → Takes v now true (made.Say w ∷ rest) did c u m → Takes v now true rest did c' u' m
   takes-word w rest did c c' u u' m hears h = elim (next-part (made.Say w) rest h.1 h.2 h.0 did c u m h.3) [
     | inl n ↦ absurd (let e : made.Say w ≡ made.Act n.0 = n.1 in cc)
@@ -423,7 +423,7 @@ module _ {R J I : Type 0} (v : View R J I) (now : ℕ) where
 
   -- ---- nothing is left of it
 
-  none-left : (a : Asks J) (st : Stage) (did : Performed J (Both I)) (c : Connection R) (u : Turn J) (m : Move J (Both I)) → TowardBy v now st [] a [] did c u m → Toward v (plain st) did c u m
+  none-left : (a : Asks J) (st : Stage) (did : Performed J (Both I)) (c : Connection R) (u : Progress J) (m : Move J (Both I)) → TowardBy v now st [] a [] did c u m → Toward v (plain st) did c u m
   none-left Nothing st did c u m h = h
   none-left (deed.Within q) st did c u m h = record {
     ledger = h.ledger;
@@ -454,7 +454,7 @@ module _ {R J I : Type 0} (v : View R J I) (now : ℕ) where
             leads = h.leads ∙ ap (λ (o : Bool). before u.acts.items (perform (if o then Ask q else m) b h.inner)) (ap is_some e);
           }
 
-  act-none : (d : Deed) (ds : List Deed) (a : Asks J) (st : Stage) (did : Performed J (Both I)) (c : Connection R) (u : Turn J) (m : Move J (Both I)) → IsAct d
+  act-none : (d : Deed) (ds : List Deed) (a : Asks J) (st : Stage) (did : Performed J (Both I)) (c : Connection R) (u : Progress J) (m : Move J (Both I)) → IsAct d
       → (TowardBy v now st ds a [] did c u m → Went v true did c u m) → TowardBy v now st (d ∷ ds) a [] did c u m → Went v true did c u m
   act-none d ds a st did c u m is others h = by (act_of d h.ledger) refl
     where
@@ -469,7 +469,7 @@ module _ {R J I : Type 0} (v : View R J I) (now : ℕ) where
           h.within.made ∙ append_assoc (made_by d h.ledger) (made_after ds (ledger_by d h.ledger)) (made_asking a (ledger_after ds (ledger_by d h.ledger)))
           ∙ ap (λ xs. xs ++ left) (f.made_is ∙ ap (λ o. acts_made (option_to_list o)) e) in cc)
 
-  all-taken : (ds : List Deed) (a : Asks J) (st : Stage) (did : Performed J (Both I)) (c : Connection R) (u : Turn J) (m : Move J (Both I)) → TowardBy v now st ds a [] did c u m → Went v true did c u m
+  all-taken : (ds : List Deed) (a : Asks J) (st : Stage) (did : Performed J (Both I)) (c : Connection R) (u : Progress J) (m : Move J (Both I)) → TowardBy v now st ds a [] did c u m → Went v true did c u m
   all-taken [] a st did c u m h = (st, none-left a st did c u m h)
   all-taken (Say w ∷ ds) a st did c u m h = absurd (let e : [] ≡ made.Say w ∷ _ = h.within.made in cc)
   all-taken (deed.Ready k ∷ ds) a st did c u m h = act-none (deed.Ready k) ds a st did c u m tt (all-taken ds a st did c u m) h
@@ -480,17 +480,17 @@ module _ {R J I : Type 0} (v : View R J I) (now : ℕ) where
   all-taken (deed.Send k bytes ∷ ds) a st did c u m h = act-none (deed.Send k bytes) ds a st did c u m tt (all-taken ds a st did c u m) h
   all-taken (deed.Log line ∷ ds) a st did c u m h = act-none (deed.Log line) ds a st did c u m tt (all-taken ds a st did c u m) h
 
-  pub took-all : (on : Bool) (did : Performed J (Both I)) (c : Connection R) (u : Turn J) (m : Move J (Both I)) → Takes v now on [] did c u m → Went v on did c u m
+  pub took-all : (on : Bool) (did : Performed J (Both I)) (c : Connection R) (u : Progress J) (m : Move J (Both I)) → Takes v now on [] did c u m → Went v on did c u m
   took-all true did c u m h = all-taken h.1 h.2 h.0 did c u m h.3
   took-all false did c u m h = h.1
 
   -- ---- the loop
 
   -- what is left leads to where all of it leads
-  abbrev pub Taken : RunTurn J → Connection R → Turn J → Bool → List (RunAct J) → Connection R → Turn J → Type 0
+  abbrev pub Taken : RunTurn J → Connection R → Progress J → Bool → List (RunAct J) → Connection R → Progress J → Type 0
   Taken next c0 u0 on rest c u = (did : Performed J (Both I)) (m : Move J (Both I)) → Took v now next did c0 u0 m → Takes v now on rest did c u m
 
-  pub takes-next : (on on' : Bool) (x : RunAct J) (parts rest : List (RunAct J)) (did : Performed J (Both I)) (c c' : Connection R) (u u' : Turn J) (m : Move J (Both I)) → parts ≡ x ∷ rest
+  pub takes-next : (on on' : Bool) (x : RunAct J) (parts rest : List (RunAct J)) (did : Performed J (Both I)) (c c' : Connection R) (u u' : Progress J) (m : Move J (Both I)) → parts ≡ x ∷ rest
       → TakesPart v now on' x c u c' u' → Takes v now on parts did c u m → Takes v now on' rest did c' u' m
   takes-next true on' x parts rest did c c' u u' m is takes h = takes rest did m (subst (λ xs. Takes v now true xs did c u m) is h)
   takes-next false on' x parts rest did c c' u u' m is takes h = absurd (let e : x ∷ rest ≡ [] = sym is ∙ h.0 in cc)
@@ -503,5 +503,5 @@ module _ {R J I : Type 0} (v : View R J I) (now : ℕ) where
       by [] f = refl
       by (x ∷ xs) f = absurd (omega (arith, f))
 
-  pub takes-none : (on : Bool) (parts : List (RunAct J)) (did : Performed J (Both I)) (c : Connection R) (u : Turn J) (m : Move J (Both I)) → parts ≡ [] → Takes v now on parts did c u m → Went v on did c u m
+  pub takes-none : (on : Bool) (parts : List (RunAct J)) (did : Performed J (Both I)) (c : Connection R) (u : Progress J) (m : Move J (Both I)) → parts ≡ [] → Takes v now on parts did c u m → Went v on did c u m
   takes-none on parts did c u m is h = took-all on did c u m (subst (λ xs. Takes v now on xs did c u m) is h)

@@ -9,7 +9,7 @@ use Rattle.run_contract.specs.declared.turns.Asking.{Asking}
 use Rattle.connection_plan.specs.Clients.{Reply, Unsent, Begun, Whole, begun, is_last, Times}
 use Rattle.connection_plan.specs.Clients as stage
 use Rattle.connection_strand.specs.declared.state.Connection.{Connection}
-use Rattle.connection_strand.specs.declared.state.Turn.{Turn}
+use Rattle.connection_strand.specs.declared.state.Progress.{Progress}
 use Rattle.connection_strand.specs.Kept.{kept}
 use Rattle.connection_strand.specs.Acts.{sockets_after}
 use Rattle.connection_strand.specs.Turns.{with_asks}
@@ -68,12 +68,12 @@ begun-last Begun = refl
 begun-last (Whole closes) = refl
 
 module _ {R J : Type 0} (left : R → ℕ) (bound : ℕ) where
-  pub spends-more : (n m : ℕ) (c c' : Connection R) (u u' : Turn J) → n ≤ m → Spends left bound n c u c' u' → Spends left bound m c u c' u'
+  pub spends-more : (n m : ℕ) (c c' : Connection R) (u u' : Progress J) → n ≤ m → Spends left bound n c u c' u' → Spends left bound m c u c' u'
   spends-more n m c c' u u' l h = omega arith
 
   -- ---- words
 
-  pub begins-reply : (n : ℕ) (c d c' : Connection R) (u u' : Turn J) → kept d.client ≡ record (kept c.client) { reply = begun (kept c.client).reply } → d.run ≡ c.run
+  pub begins-reply : (n : ℕ) (c d c' : Connection R) (u u' : Progress J) → kept d.client ≡ record (kept c.client) { reply = begun (kept c.client).reply } → d.run ≡ c.run
       → d.sockets.items ≡ c.sockets.items → Spends left bound n d u c' u' → Spends left bound n c u c' u'
   begins-reply n c d c' u u' client run socks h =
       let k = kept c.client in
@@ -82,7 +82,7 @@ module _ {R J : Type 0} (left : R → ℕ) (bound : ℕ) where
       omega arith
 
   -- what is counted is as it was
-  pub spends-same : (n : ℕ) (c d c' : Connection R) (u u' : Turn J) → d.run ≡ c.run → d.sockets.items ≡ c.sockets.items → units left bound (kept d.client) c.run ≡ units left bound (kept c.client) c.run
+  pub spends-same : (n : ℕ) (c d c' : Connection R) (u u' : Progress J) → d.run ≡ c.run → d.sockets.items ≡ c.sockets.items → units left bound (kept d.client) c.run ≡ units left bound (kept c.client) c.run
       → client_left (kept d.client) ≡ client_left (kept c.client) → Spends left bound n d u c' u' → Spends left bound n c u c' u'
   spends-same n c d c' u u' run socks same less h =
       let f : Spends left bound 0 c u d u = spends-client left bound 0 c d u u (kept d.client) refl run socks same (omega (arith, less)) in
@@ -91,7 +91,7 @@ module _ {R J : Type 0} (left : R → ℕ) (bound : ℕ) where
   -- ---- turns of a run
 
   -- an act
-  pub act-costs : (a : Act J) (c c' : Connection R) (u u' : Turn J) → TookAct a c c' u u' → Spends left bound 1 c u c' u'
+  pub act-costs : (a : Act J) (c c' : Connection R) (u u' : Progress J) → TookAct a c c' u u' → Spends left bound 1 c u c' u'
   act-costs a c c' u u' x =
       let e : whole left bound c' ≡ unit * units left bound (kept c.client) c.run + client_left (kept c.client) + 2 * length c'.sockets.items + 2 =
       ap (λ (k : Connection R). unit * units left bound (kept k.client) k.run + client_left (kept k.client) + 2 * length c'.sockets.items + 2) x.kept in
@@ -101,17 +101,17 @@ module _ {R J : Type 0} (left : R → ℕ) (bound : ℕ) where
       omega arith
 
   -- what was taken of it so far is paid for
-  abbrev pub Taking : List (RunAct J) → Connection R → Turn J → List (RunAct J) → Connection R → Turn J → Type 0
+  abbrev pub Taking : List (RunAct J) → Connection R → Progress J → List (RunAct J) → Connection R → Progress J → Type 0
   Taking parts c u rest c' u' = whole left bound c' + length u'.acts.items + unit * length rest ≤ whole left bound c + length u.acts.items + unit * length parts
 
-  pub takes-first : (parts : List (RunAct J)) (q : Option Asking) (c : Connection R) (u : Turn J) → Taking parts c u parts (with_asks q c) u
+  pub takes-first : (parts : List (RunAct J)) (q : Option Asking) (c : Connection R) (u : Progress J) → Taking parts c u parts (with_asks q c) u
   takes-first parts q c u = omega arith
 
-  pub takes-on : (parts rest more : List (RunAct J)) (c d e : Connection R) (u v w : Turn J) → length rest ≡ length more + 1 → Taking parts c u rest d v → Spends left bound unit d v e w
+  pub takes-on : (parts rest more : List (RunAct J)) (c d e : Connection R) (u v w : Progress J) → length rest ≡ length more + 1 → Taking parts c u rest d v → Spends left bound unit d v e w
       → Taking parts c u more e w
   takes-on parts rest more c d e u v w l h k = let f = unit-one (length more) (length rest) (omega arith) in omega arith
 
-  pub tells-costs : (n : ℕ) (old new : R) (c d c' : Connection R) (u u' : Turn J) → c.run ≡ Some old → d.run ≡ Some new → d.client ≡ c.client → d.sockets ≡ c.sockets
+  pub tells-costs : (n : ℕ) (old new : R) (c d c' : Connection R) (u u' : Progress J) → c.run ≡ Some old → d.run ≡ Some new → d.client ≡ c.client → d.sockets ≡ c.sockets
       → left new + n < left old → Spends left bound (unit * n) d u c' u' → Pays left bound unit c u c' u'
   tells-costs n old new c d c' u u' was is client socks less h =
       let k = kept c.client in
@@ -124,7 +124,7 @@ module _ {R J : Type 0} (left : R → ℕ) (bound : ℕ) where
       let g = unit-less (left new) (left old) n y w less in
       omega arith
 
-  pub begins-costs : (n : ℕ) (new : R) (times : Times) (expects : Bool) (c d c' : Connection R) (u u' : Turn J)
+  pub begins-costs : (n : ℕ) (new : R) (times : Times) (expects : Bool) (c d c' : Connection R) (u u' : Progress J)
       → kept d.client ≡ record (kept c.client) { stage = stage.Busy; times = times; reply = Unsent; expects = expects; waited = false } → d.run ≡ Some new → d.sockets ≡ c.sockets
       → left new + n ≤ bound → Spends left bound (unit * n) d u c' u' → Spends left bound (unit * (bound + 1)) c u c' u'
   begins-costs n new times expects c d c' u u' client is socks less h =
@@ -140,7 +140,7 @@ module _ {R J : Type 0} (left : R → ℕ) (bound : ℕ) where
   -- ---- heads that are refused
 
   -- what the reply costs is paid for by that no more heads are read
-  pub refuses-costs : (times : Times) (c d e : Connection R) (u v : Turn J) → kept d.client ≡ record (kept c.client) { stage = stage.Flush; times = times; reply = Whole true }
+  pub refuses-costs : (times : Times) (c d e : Connection R) (u v : Progress J) → kept d.client ≡ record (kept c.client) { stage = stage.Flush; times = times; reply = Whole true }
       → d.run ≡ c.run → d.sockets ≡ c.sockets → is_last (kept c.client).reply ≡ false → Spends left bound unit d u e v → Spends left bound 0 c u e v
   refuses-costs times c d e u v client run socks last h =
       let k = kept c.client in

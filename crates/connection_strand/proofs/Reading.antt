@@ -17,7 +17,7 @@ use Rattle.client_line.specs.Lines.{after_body, drops, settled, answer_dropping,
 use Rattle.client_line.proofs.Feeds.{ends}
 use Rattle.connection_plan.specs.Clients.{is_last}
 use Rattle.connection_strand.specs.declared.state.Connection.{Connection}
-use Rattle.connection_strand.specs.declared.state.Turn.{Turn}
+use Rattle.connection_strand.specs.declared.state.Progress.{Progress}
 use Rattle.connection_strand.specs.Kept.{kept}
 use Rattle.connection_strand.specs.Costs.{unit, weight_if, client_left, run_left, units, whole, Spends, Heard, Settles}
 use Rattle.connection_strand.proofs.Costing.{may-end, unit-some}
@@ -125,7 +125,7 @@ held-fewer bound k h l = let f : (k + 1) * (bound + 2) ≤ h * (bound + 2) = mul
 
 module _ {R J : Type 0} (left : R → ℕ) (bound : ℕ) where
   -- a body that is asked for takes of what is held
-  pub asked-costs : (c d : Connection R) (u : Turn J) → kept d.client ≡ record (kept c.client) { came = after_asked (kept c.client).came (kept c.client).limit } → d.run ≡ c.run
+  pub asked-costs : (c d : Connection R) (u : Progress J) → kept d.client ≡ record (kept c.client) { came = after_asked (kept c.client).came (kept c.client).limit } → d.run ≡ c.run
       → d.sockets ≡ c.sockets → Spends left bound 0 c u d u
   asked-costs c d u client run socks =
       let k = kept c.client in
@@ -137,12 +137,12 @@ module _ {R J : Type 0} (left : R → ℕ) (bound : ℕ) where
       let f = unit-fewer x w (n * (bound + 2)) (length k.came.held * (bound + 2)) (mul-le-mul_right (bound + 2) (asked-fewer k.came k.limit)) in
       omega arith
 
-  pub limit-costs : (max : ℕ) (c d : Connection R) (u : Turn J) → kept d.client ≡ record (kept c.client) { limit = max; came = after_asked (kept c.client).came max } → d.run ≡ c.run
+  pub limit-costs : (max : ℕ) (c d : Connection R) (u : Progress J) → kept d.client ≡ record (kept c.client) { limit = max; came = after_asked (kept c.client).came max } → d.run ≡ c.run
       → d.sockets ≡ c.sockets → Spends left bound 0 c u d u
   limit-costs max c d u client run socks =
       asked-costs (record c { client = record c.client { limit = max } }) d u client run socks
 
-  pub next-pays : (answer : LineOut) (on : Bool) (c d c' : Connection R) (u u' : Turn J) → IsFed (done (kept c.client).came) [] answer (kept d.client).came
+  pub next-pays : (answer : LineOut) (on : Bool) (c d c' : Connection R) (u u' : Progress J) → IsFed (done (kept c.client).came) [] answer (kept d.client).came
       → kept d.client ≡ record (kept c.client) { came = (kept d.client).came } → d.run ≡ c.run → d.sockets ≡ c.sockets
       → Heard left bound answer on d u c' u' → Settles left bound on c u c' u'
   next-pays answer on c d c' u u' fed client run socks h = by answer on less h

@@ -39,7 +39,7 @@ use Rattle.connection_plan.proofs.Meets.{taken-of}
 use Rattle.connection_plan.proofs.Stays.{within-of, within-alike}
 use Rattle.connection_strand.specs.Views.{View, service}
 use Rattle.connection_strand.specs.declared.state.Connection.{Connection}
-use Rattle.connection_strand.specs.declared.state.Turn.{Turn}
+use Rattle.connection_strand.specs.declared.state.Progress.{Progress}
 use Rattle.connection_strand.specs.declared.client.Stage as codes
 use Rattle.connection_strand.specs.declared.client.Stage.TheVariants as code
 use Rattle.send_queue.specs.Records.{Sending}
@@ -63,14 +63,14 @@ two-up (suc (suc n)) f g = omega arith
 
 module _ {R J I : Type 0} (v : View R J I)
     (lawful : IsRun v.meaning.plan v.meaning.holds) (apart : (x : R) (b c : Ledger J) (r : I) → AreAlike b c → v.meaning.stands x b r → v.meaning.stands x c r) (now : ℕ) where
-  abbrev pub To : Moment J → Performed J (Both I) → Connection R → Turn J → Move J (Both I) → Type 0
+  abbrev pub To : Moment J → Performed J (Both I) → Connection R → Progress J → Move J (Both I) → Type 0
   To e did c u m = Toward v e did c u m
 
-  abbrev pub Shows : Seen → Performed J (Both I) → Connection R → Turn J → Type 0
+  abbrev pub Shows : Seen → Performed J (Both I) → Connection R → Progress J → Type 0
   Shows x did c u = Shown v now x did c u
 
   -- with the action entered
-  abbrev pub after : {x : Seen} {did : Performed J (Both I)} {c : Connection R} {u : Turn J} → Shows x did c u → Ledger J
+  abbrev pub after : {x : Seen} {did : Performed J (Both I)} {c : Connection R} {u : Progress J} → Shows x did c u → Ledger J
   after {x} h = entered (Did (action_by h.ledger x)) h.ledger
 
   -- what is open is as it was, and nothing is asked
@@ -81,7 +81,7 @@ module _ {R J I : Type 0} (v : View R J I)
     counted : c.taken place.Client ≤ length (c.sent place.Client)
     once : NumbersOnce (numbers c.armed)
 
-  serves-by : (x : Seen) (did : Performed J (Both I)) (c c' : Connection R) (u : Turn J) (h : Shows x did c u) → IsSameRun c c' → IsCalm h.ledger (after h)
+  serves-by : (x : Seen) (did : Performed J (Both I)) (c c' : Connection R) (u : Progress J) (h : Shows x did c u) → IsSameRun c c' → IsCalm h.ledger (after h)
       → kept c'.client ≡ kept_of (after h) h.inner.client → Serves c' u (after h) h.inner
   serves-by x did c c' u h same calm client = record {
     client = client;
@@ -96,7 +96,7 @@ module _ {R J I : Type 0} (v : View R J I)
     on = h.on;
   }
 
-  within-by : (x : Seen) (did : Performed J (Both I)) (c c' : Connection R) (u : Turn J) (h : Shows x did c u) → IsSameRun c c' → AreAlike h.ledger (after h)
+  within-by : (x : Seen) (did : Performed J (Both I)) (c c' : Connection R) (u : Progress J) (h : Shows x did c u) → IsSameRun c c' → AreAlike h.ledger (after h)
       → Serves c' u (after h) h.inner → Within v (plain h.inner.client.stage) c' u (after h) h.inner
   within-by x did c c' u h same alike serves = record {
     serves = serves;
@@ -113,7 +113,7 @@ module _ {R J I : Type 0} (v : View R J I)
 
   -- ---- at the client's place
 
-  pub shown-bytes : (bytes : List ℕ) (did : Performed J (Both I)) (c : Connection R) (u : Turn J) (h : Shows (seens.Bytes place.Client bytes) did c u)
+  pub shown-bytes : (bytes : List ℕ) (did : Performed J (Both I)) (c : Connection R) (u : Progress J) (h : Shows (seens.Bytes place.Client bytes) did c u)
       → To (plain h.inner.client.stage) did c u (Look (λ b s. came_at (service v) now s.client.stage (fed s.client.came bytes) s))
   shown-bytes bytes did c u h =
       let alike : AreAlike h.ledger (after h) = record { threads = refl; armed = refl; put_off = λ k. refl; taken = λ k. refl; sent = λ k. refl; opened = λ k. refl; count = refl; asked = h.none_asked } in
@@ -124,7 +124,7 @@ module _ {R J I : Type 0} (v : View R J I)
         leads = h.leads;
       }
 
-  pub shown-ended : (did : Performed J (Both I)) (c : Connection R) (u : Turn J) (h : Shows (seens.Ended place.Client) did c u)
+  pub shown-ended : (did : Performed J (Both I)) (c : Connection R) (u : Progress J) (h : Shows (seens.Ended place.Client) did c u)
       → To (plain h.inner.client.stage) did c u (Look (λ b s. ends_at (service v) now s.client.stage s))
   shown-ended did c u h =
       let alike : AreAlike h.ledger (after h) = record { threads = refl; armed = refl; put_off = λ k. refl; taken = λ k. refl; sent = λ k. refl; opened = λ k. refl; count = refl; asked = h.none_asked } in
@@ -135,7 +135,7 @@ module _ {R J I : Type 0} (v : View R J I)
         leads = h.leads;
       }
 
-  pub shown-broken : (did : Performed J (Both I)) (c : Connection R) (u : Turn J) (h : Shows (seens.Broken place.Client) did c u) → To (plain h.inner.client.stage) did c u (lose (service v) now)
+  pub shown-broken : (did : Performed J (Both I)) (c : Connection R) (u : Progress J) (h : Shows (seens.Broken place.Client) did c u) → To (plain h.inner.client.stage) did c u (lose (service v) now)
   shown-broken did c u h =
       let alike : AreAlike h.ledger (after h) = record { threads = refl; armed = refl; put_off = λ k. refl; taken = λ k. refl; sent = λ k. refl; opened = λ k. refl; count = refl; asked = h.none_asked } in
       record {
@@ -145,7 +145,7 @@ module _ {R J I : Type 0} (v : View R J I)
         leads = h.leads;
       }
 
-  pub shown-stop : (did : Performed J (Both I)) (c : Connection R) (u : Turn J) (h : Shows seens.Stop did c u) → To (plain h.inner.client.stage) did c u finish
+  pub shown-stop : (did : Performed J (Both I)) (c : Connection R) (u : Progress J) (h : Shows seens.Stop did c u) → To (plain h.inner.client.stage) did c u finish
   shown-stop did c u h =
       let alike : AreAlike h.ledger (after h) = record { threads = refl; armed = refl; put_off = λ k. refl; taken = λ k. refl; sent = λ k. refl; opened = λ k. refl; count = refl; asked = h.none_asked } in
       record {
@@ -156,10 +156,10 @@ module _ {R J I : Type 0} (v : View R J I)
       }
 
   -- a place whose offer was begun isn't put off
-  on-time : (did : Performed J (Both I)) (c : Connection R) (u : Turn J) (x : Seen) (h : Shows x did c u) → h.ledger.begun ≡ Some place.Client → h.ledger.put_off place.Client ≡ false
+  on-time : (did : Performed J (Both I)) (c : Connection R) (u : Progress J) (x : Seen) (h : Shows x did c u) → h.ledger.begun ≡ Some place.Client → h.ledger.put_off place.Client ≡ false
   on-time did c u x h begun = h.takes (ap (is_place place.Client) begun)
 
-  pub shown-lost : (did : Performed J (Both I)) (c : Connection R) (u : Turn J) (h : Shows (seens.Lost place.Client) did c u) → To (plain h.inner.client.stage) did c u (lose (service v) now)
+  pub shown-lost : (did : Performed J (Both I)) (c : Connection R) (u : Progress J) (h : Shows (seens.Lost place.Client) did c u) → To (plain h.inner.client.stage) did c u (lose (service v) now)
   shown-lost did c u h =
       let alike : AreAlike h.ledger (after h) = record { threads = refl; armed = refl; put_off = λ k. refl; taken = λ k. refl; sent = λ k. refl; opened = λ k. refl; count = refl; asked = h.none_asked } in
       record {
@@ -170,7 +170,7 @@ module _ {R J I : Type 0} (v : View R J I)
         leads = h.leads;
       }
 
-  pub shown-ready : (did : Performed J (Both I)) (c c' : Connection R) (u : Turn J) (h : Shows (seens.Ready place.Client) did c u) → IsSameRun c c'
+  pub shown-ready : (did : Performed J (Both I)) (c c' : Connection R) (u : Progress J) (h : Shows (seens.Ready place.Client) did c u) → IsSameRun c c'
       → kept c'.client ≡ record (kept c.client) { off = false } → To (plain h.inner.client.stage) did c' u (end_timer (service v) now timer.Send (move.Send place.Client [] Done))
   shown-ready did c c' u h same client =
       let alike : AreAlike h.ledger (after h) = record { threads = refl; armed = refl; put_off = λ k. refl; taken = λ k. refl; sent = λ k. refl; opened = λ k. refl; count = refl; asked = h.none_asked } in
@@ -182,7 +182,7 @@ module _ {R J I : Type 0} (v : View R J I)
         leads = h.leads;
       }
 
-  pub shown-later : (did : Performed J (Both I)) (c c' : Connection R) (u : Turn J) (h : Shows (seens.Later place.Client) did c u) → IsSameRun c c'
+  pub shown-later : (did : Performed J (Both I)) (c c' : Connection R) (u : Progress J) (h : Shows (seens.Later place.Client) did c u) → IsSameRun c c'
       → kept c'.client ≡ record (kept c.client) { off = true } → To (plain h.inner.client.stage) did c' u (begin_timer (service v) now timer.Send Done)
   shown-later did c c' u h same client =
       let alike : AreAlike h.ledger (after h) = record { threads = refl; armed = refl; put_off = λ k. refl; taken = λ k. refl; sent = λ k. refl; opened = λ k. refl; count = refl; asked = h.none_asked } in
@@ -197,7 +197,7 @@ module _ {R J I : Type 0} (v : View R J I)
   -- ---- a run that goes on is told
 
   -- by the stage
-  pub at-busy : (x : RunSeen) (did : Performed J (Both I)) (c : Connection R) (u : Turn J) (m : Move J (Both I)) (h : ToRun v now x did c u m) → c.client.stage ≡ code.Busy
+  pub at-busy : (x : RunSeen) (did : Performed J (Both I)) (c : Connection R) (u : Progress J) (m : Move J (Both I)) (h : ToRun v now x did c u m) → c.client.stage ≡ code.Busy
       → Told v now x did c u m
   at-busy x did c u m h e = record {
     ledger = h.ledger;
@@ -219,13 +219,13 @@ module _ {R J I : Type 0} (v : View R J I)
       run : HasRun v stage.Busy c.run (waits_of c.waits) h.ledger h.inner.run
       run = subst (λ (st : Stage). HasRun v st c.run (waits_of c.waits) h.ledger h.inner.run) busy h.run
 
-  pub may-tell : (x : RunSeen) (did : Performed J (Both I)) (c : Connection R) (u : Turn J) (m : Move J (Both I)) (h : Told v now x did c u m) (run : R) → c.run ≡ Some run
+  pub may-tell : (x : RunSeen) (did : Performed J (Both I)) (c : Connection R) (u : Progress J) (m : Move J (Both I)) (h : Told v now x did c u m) (run : R) → c.run ≡ Some run
       → runs.MayBeTold v.meaning now x run
   may-tell x did c u m h run is =
       let f : h.run ≡ run = (let same : Some h.run ≡ Some run = sym h.is ∙ is in cc) in
       (h.ledger, h.inner.run, subst (λ (y : R). v.meaning.stands y h.ledger h.inner.run) f h.standing, h.known, h.comes)
 
-  pub at-free : (x : RunSeen) (did : Performed J (Both I)) (c : Connection R) (u : Turn J) (m : Move J (Both I)) (h : ToRun v now x did c u m) (st : Stage) → IsFree st
+  pub at-free : (x : RunSeen) (did : Performed J (Both I)) (c : Connection R) (u : Progress J) (m : Move J (Both I)) (h : ToRun v now x did c u m) (st : Stage) → IsFree st
       → stage_of c.client.stage ≡ st → Came v did c u
   at-free x did c u m h st free e =
       let b = entered_as x h.ledger in
@@ -260,11 +260,11 @@ module _ {R J I : Type 0} (v : View R J I)
       no-run stage.Busy f b = absurd f
       no-run stage.Over f b = absurd f
 
-  free-here : (x : RunSeen) (did : Performed J (Both I)) (c : Connection R) (u : Turn J) (m : Move J (Both I)) → ToRun v now x did c u m → (c.client.stage ≡ code.Busy → ⊥)
+  free-here : (x : RunSeen) (did : Performed J (Both I)) (c : Connection R) (u : Progress J) (m : Move J (Both I)) → ToRun v now x did c u m → (c.client.stage ≡ code.Busy → ⊥)
       → IsFree (stage_of c.client.stage)
   free-here x did c u m h f = not-busy c.client.stage f (subst IsOn (sym (ap (λ (k : Kept). k.stage) h.serves.client)) h.serves.on)
 
-  pub not-going : (x : RunSeen) (did : Performed J (Both I)) (c : Connection R) (u : Turn J) (m : Move J (Both I)) → (c.client.stage ≡ code.Busy → ⊥) → ToRun v now x did c u m
+  pub not-going : (x : RunSeen) (did : Performed J (Both I)) (c : Connection R) (u : Progress J) (m : Move J (Both I)) → (c.client.stage ≡ code.Busy → ⊥) → ToRun v now x did c u m
       → Came v did c u
   not-going x did c u m f h = at-free x did c u m h (stage_of c.client.stage) (free-here x did c u m h f) refl
 
@@ -288,7 +288,7 @@ module _ {R J I : Type 0} (v : View R J I)
   unasked : (st : Stage) (b : Ledger J) (r : I) → st ≡ stage.Busy → Agrees v.meaning.plan v.meaning.holds st b r → (v.meaning.plan.waits r).asks ≡ None
   unasked st b r e h = (subst (λ (st : Stage). Agrees v.meaning.plan v.meaning.holds st b r) e h).1
 
-  pub is-unasked : (x : Seen) (did : Performed J (Both I)) (c : Connection R) (u : Turn J) (h : Shows x did c u) (d : Connection R) → d.client.stage ≡ c.client.stage → d.waits ≡ c.waits → IsUnasked d
+  pub is-unasked : (x : Seen) (did : Performed J (Both I)) (c : Connection R) (u : Progress J) (h : Shows x did c u) (d : Connection R) → d.client.stage ≡ c.client.stage → d.waits ≡ c.waits → IsUnasked d
   is-unasked x did c u h d stages waits = λ at.
       let busy : h.inner.client.stage ≡ stage.Busy = sym (ap (λ (k : Kept). k.stage) h.client) ∙ sym (ap stage_of stages) ∙ at in
       let run : HasRun v stage.Busy c.run (waits_of c.waits) h.ledger h.inner.run = subst (λ (st : Stage). HasRun v st c.run (waits_of c.waits) h.ledger h.inner.run) busy h.run in
@@ -326,7 +326,7 @@ module _ {R J I : Type 0} (v : View R J I)
   goes-on x stage.Drop b r on h may own = absurd (own-is-busy x b may own h)
   goes-on x stage.Over b r on h may own = absurd on
 
-  told-by : (y : Seen) (x : RunSeen) (did : Performed J (Both I)) (c : Connection R) (u : Turn J) (m : Move J (Both I)) (h : Shows y did c u) → Serves c u (entered_as x h.ledger) h.inner
+  told-by : (y : Seen) (x : RunSeen) (did : Performed J (Both I)) (c : Connection R) (u : Progress J) (m : Move J (Both I)) (h : Shows y did c u) → Serves c u (entered_as x h.ledger) h.inner
       → IsComing x h.ledger
       → did ≡ before u.acts.items (perform (to_run (service v) now m h.inner.client.stage x) (entered_as x h.ledger) h.inner) → ToRun v now x did c u m
   told-by y x did c u m h serves comes leads = record {
@@ -340,7 +340,7 @@ module _ {R J I : Type 0} (v : View R J I)
     leads = leads;
   }
 
-  calm-of : (y : Seen) (did : Performed J (Both I)) (c : Connection R) (u : Turn J) (h : Shows y did c u) → (after h).opened ≡ h.ledger.opened → (after h).count ≡ h.ledger.count → (after h).asked ≡ None
+  calm-of : (y : Seen) (did : Performed J (Both I)) (c : Connection R) (u : Progress J) (h : Shows y did c u) → (after h).opened ≡ h.ledger.opened → (after h).count ≡ h.ledger.count → (after h).asked ≡ None
       → (after h).taken place.Client ≡ h.ledger.taken place.Client → (after h).put_off place.Client ≡ h.ledger.put_off place.Client → (after h).armed ≡ h.ledger.armed → Serves c u (after h) h.inner
   calm-of y did c u h opened count asked taken off armed =
       serves-by y did c c u h (same-run c) (record {
@@ -354,11 +354,11 @@ module _ {R J I : Type 0} (v : View R J I)
       kept-same : kept_of h.ledger h.inner.client ≡ kept_of (after h) h.inner.client
       kept-same = rw (opened, taken, off, armed) refl
 
-  pub shown-run : (k : ℕ) (did : Performed J (Both I)) (c : Connection R) (u : Turn J) (h : Shows (seens.Run k) did c u) → ToRun v now (seen.Run k) did c u (settle (service v) now)
+  pub shown-run : (k : ℕ) (did : Performed J (Both I)) (c : Connection R) (u : Progress J) (h : Shows (seens.Run k) did c u) → ToRun v now (seen.Run k) did c u (settle (service v) now)
   shown-run k did c u h = told-by (seens.Run k) (seen.Run k) did c u (settle (service v) now) h (calm-of (seens.Run k) did c u h refl refl refl refl refl refl) h.comes.0 h.leads
 
   -- all but bytes that were taken
-  pub shown-sock : (k : ℕ) (x : SockSeen) → ((n : ℕ) → x ≡ at.Took n → ⊥) → (did : Performed J (Both I)) (c : Connection R) (u : Turn J) → Shows (sock_seen k x) did c u
+  pub shown-sock : (k : ℕ) (x : SockSeen) → ((n : ℕ) → x ≡ at.Took n → ⊥) → (did : Performed J (Both I)) (c : Connection R) (u : Progress J) → Shows (sock_seen k x) did c u
       → ToRun v now (seen.Sock k x) did c u (settle (service v) now)
   shown-sock k (at.Bytes bytes) not did c u h = told-by _ (seen.Sock k (at.Bytes bytes)) did c u (settle (service v) now) h (calm-of _ did c u h refl refl refl refl refl refl) h.comes h.leads
   shown-sock k at.Ended not did c u h = told-by _ (seen.Sock k at.Ended) did c u (settle (service v) now) h (calm-of _ did c u h refl refl refl refl refl refl) h.comes h.leads
@@ -370,7 +370,7 @@ module _ {R J I : Type 0} (v : View R J I)
   shown-sock k at.Refused not did c u h = told-by _ (seen.Sock k at.Refused) did c u (settle (service v) now) h (calm-of _ did c u h refl refl refl refl refl refl) h.comes h.leads
   shown-sock k (at.Took n) not did c u h = absurd (not n refl)
 
-  pub shown-took : (k n m : ℕ) (piece : List ℕ) (did : Performed J (Both I)) (c : Connection R) (u : Turn J) (h : Shows (seens.Took (place.Sock k) n) did c u)
+  pub shown-took : (k n m : ℕ) (piece : List ℕ) (did : Performed J (Both I)) (c : Connection R) (u : Progress J) (h : Shows (seens.Took (place.Sock k) n) did c u)
       → piece ≡ (if has (place.Sock k) h.ledger.opened then next_piece k h.ledger else []) → m ≡ min (length piece) n
       → ToRun v now (seen.Sock k (at.Took m)) did c u (settle (service v) now)
   shown-took k n m piece did c u h is e =
@@ -394,7 +394,7 @@ module _ {R J I : Type 0} (v : View R J I)
 
   -- ---- deadlines
 
-  pub shown-due : (n : ℕ) → 2 ≤ n → (did : Performed J (Both I)) (c : Connection R) (u : Turn J) (h : Shows (seens.Due n) did c u) → ToRun v now (seen.Due n) did c u Done
+  pub shown-due : (n : ℕ) → 2 ≤ n → (did : Performed J (Both I)) (c : Connection R) (u : Progress J) (h : Shows (seens.Due n) did c u) → ToRun v now (seen.Due n) did c u Done
   shown-due zero low did c u h = absurd (omega (arith, low))
   shown-due (suc zero) low did c u h = absurd (omega (arith, low))
   shown-due (suc (suc n)) low did c u h =
@@ -412,14 +412,14 @@ module _ {R J I : Type 0} (v : View R J I)
       others : kept_of h.ledger h.inner.client ≡ kept_of (after h) h.inner.client
       others = rw (cancelled-other 0 (suc (suc n)) h.ledger.armed (apart-from 0 (omega arith)), cancelled-other 1 (suc (suc n)) h.ledger.armed (apart-from 1 (omega arith))) refl
 
-  own-due-at : (t : timer.Timer) (did : Performed J (Both I)) (c c' : Connection R) (u : Turn J) (h : Shows (seens.Due (number_of t)) did c u) → IsSameRun c c'
+  own-due-at : (t : timer.Timer) (did : Performed J (Both I)) (c c' : Connection R) (u : Progress J) (h : Shows (seens.Due (number_of t)) did c u) → IsSameRun c c'
       → kept c'.client ≡ with_armed t false (kept c.client) → AreAlike h.ledger (after h) → Within v (plain h.inner.client.stage) c' u (after h) h.inner
   own-due-at t did c c' u h same client alike =
       within-by _ did c c' u h same alike (serves-by _ did c c' u h same
       (record { opened = refl; count = refl; asked = refl; counted = h.counted; once = once-disarmed (number_of t) h.ledger.armed h.once })
       (client ∙ ap (with_armed t false) h.client ∙ disarms t h.ledger h.inner.client h.once))
 
-  pub shown-waited : (did : Performed J (Both I)) (c c' : Connection R) (u : Turn J) (h : Shows (seens.Due 0) did c u) → IsSameRun c c'
+  pub shown-waited : (did : Performed J (Both I)) (c c' : Connection R) (u : Progress J) (h : Shows (seens.Due 0) did c u) → IsSameRun c c'
       → kept c'.client ≡ record (kept c.client) { waits = false } → To (plain h.inner.client.stage) did c' u (lose (service v) now)
   shown-waited did c c' u h same client =
       let alike = due-alike 0 h.ledger refl h.none_asked in record {
@@ -429,7 +429,7 @@ module _ {R J I : Type 0} (v : View R J I)
         leads = h.leads;
       }
 
-  pub shown-sent : (did : Performed J (Both I)) (c c' : Connection R) (u : Turn J) (h : Shows (seens.Due 1) did c u) → IsSameRun c c'
+  pub shown-sent : (did : Performed J (Both I)) (c c' : Connection R) (u : Progress J) (h : Shows (seens.Due 1) did c u) → IsSameRun c c'
       → kept c'.client ≡ record (kept c.client) { sends = false } → To (plain h.inner.client.stage) did c' u (lose (service v) now)
   shown-sent did c c' u h same client =
       let alike = due-alike 1 h.ledger refl h.none_asked in record {
@@ -441,7 +441,7 @@ module _ {R J I : Type 0} (v : View R J I)
 
   -- ---- bytes that the client took
 
-  pub shown-taken : (n m : ℕ) (did : Performed J (Both I)) (c c' : Connection R) (u : Turn J) (h : Shows (seens.Took place.Client n) did c u) → IsSameRun c c'
+  pub shown-taken : (n m : ℕ) (did : Performed J (Both I)) (c c' : Connection R) (u : Progress J) (h : Shows (seens.Took place.Client n) did c u) → IsSameRun c c'
       → m ≡ min (length (queues.offered (kept c.client).sending)) n → kept c'.client ≡ record (kept c.client) { sending = queues.taken (kept c.client).sending m }
       → To (plain h.inner.client.stage) did c' u (settle (service v) now)
   shown-taken n m did c c' u h same e client =
@@ -494,17 +494,17 @@ module _ {R J I : Type 0} (v : View R J I)
           ∙ ap (λ (x : Sending). record (kept_of b h.inner.client) { sending = x }) same-sending
           ∙ ap (λ (o : Bool). record (kept_of b h.inner.client) { sending = sending_of (after h); off = o }) (h.takes (ap (is_place place.Client) h.comes.taking.begun))
 
-  pub own-goes : (x : RunSeen) → is_of_client x ≡ false → runs.is_own_turn x ≡ true → (did : Performed J (Both I)) (c : Connection R) (u : Turn J) (m : Move J (Both I))
+  pub own-goes : (x : RunSeen) → is_of_client x ≡ false → runs.is_own_turn x ≡ true → (did : Performed J (Both I)) (c : Connection R) (u : Progress J) (m : Move J (Both I))
       → ToRun v now x did c u m → (c.client.stage ≡ code.Busy → ⊥) → ⊥
   own-goes x other own did c u m h f =
       let at : stage_of c.client.stage ≡ stage.Busy = ap (λ (k : Kept). k.stage) h.serves.client ∙ h.goes_on other own in
       subst IsFree at (free-here x did c u m h f)
 
-  pub no-run-none : (x : RunSeen) (did : Performed J (Both I)) (c : Connection R) (u : Turn J) (m : Move J (Both I)) (h : Told v now x did c u m) → c.run ≡ None → ⊥
+  pub no-run-none : (x : RunSeen) (did : Performed J (Both I)) (c : Connection R) (u : Progress J) (m : Move J (Both I)) (h : Told v now x did c u m) → c.run ≡ None → ⊥
   no-run-none x did c u m h e = let f : None ≡ Some h.run = sym e ∙ h.is in cc
 
   -- how many they are
-  pub took-are : (n m : ℕ) (did : Performed J (Both I)) (c : Connection R) (u : Turn J) (h : Shows (seens.Took place.Client n) did c u) → m ≡ min (length (queues.offered (kept c.client).sending)) n → 0 < m
+  pub took-are : (n m : ℕ) (did : Performed J (Both I)) (c : Connection R) (u : Progress J) (h : Shows (seens.Took place.Client n) did c u) → m ≡ min (length (queues.offered (kept c.client).sending)) n → 0 < m
   took-are n m did c u h e =
       let piece = take (16_384 - h.ledger.taken place.Client % 16_384) (left_at place.Client h.ledger) in
       let whole : queues.offered (kept c.client).sending ≡ piece = ap (λ (k : Kept). queues.offered k.sending) h.client
@@ -514,7 +514,7 @@ module _ {R J I : Type 0} (v : View R J I)
 
   -- ---- the client sends no more
 
-  ends-by : (e : Moment J) (did : Performed J (Both I)) (c c' : Connection R) (u : Turn J) (m : Move J (Both I)) → IsSameRun c c' → kept c'.client ≡ record (kept c.client) { ended = true }
+  ends-by : (e : Moment J) (did : Performed J (Both I)) (c c' : Connection R) (u : Progress J) (m : Move J (Both I)) → IsSameRun c c' → kept c'.client ≡ record (kept c.client) { ended = true }
       → To e did c u (change (λ x. record x { ended = true }) m) → To e did c' u m
   ends-by e did c c' u m same client h =
       let b = h.ledger in
@@ -538,7 +538,7 @@ module _ {R J I : Type 0} (v : View R J I)
         leads = h.leads;
       }
 
-  pub ends-as : (st : Stage) (st' : Stage) (did : Performed J (Both I)) (c : Connection R) (u : Turn J) (m : Move J (Both I)) → stage_of c.client.stage ≡ st'
+  pub ends-as : (st : Stage) (st' : Stage) (did : Performed J (Both I)) (c : Connection R) (u : Progress J) (m : Move J (Both I)) → stage_of c.client.stage ≡ st'
       → ((b : Ledger J) (s : Both I) → perform (ends_at (service v) now st' s) b s ≡ perform m b s) → To (plain st) did c u (Look (λ b s. ends_at (service v) now s.client.stage s)) → To (plain st') did c u m
   ends-as st st' did c u m e same h =
       let at : h.inner.client.stage ≡ st' = sym (ap (λ (k : Kept). k.stage) h.within.serves.client) ∙ e in
@@ -553,7 +553,7 @@ module _ {R J I : Type 0} (v : View R J I)
   abbrev told_end : Bool → Move J (Both I)
   told_end x = if x then tell (service v) now seen.ClientEnded (settle (service v) now) else settle (service v) now
 
-  pub ends-busy : (st : Stage) (did : Performed J (Both I)) (c c' : Connection R) (u : Turn J) (x : Bool) → c.client.stage ≡ code.Busy → c.waits.client ≡ x → IsSameRun c c'
+  pub ends-busy : (st : Stage) (did : Performed J (Both I)) (c c' : Connection R) (u : Progress J) (x : Bool) → c.client.stage ≡ code.Busy → c.waits.client ≡ x → IsSameRun c c'
       → kept c'.client ≡ record (kept c.client) { ended = true }
       → To (plain st) did c u (Look (λ b s. ends_at (service v) now s.client.stage s)) → To (plain stage.Busy) did c' u (told_end x)
   ends-busy st did c c' u x e client-is same client h =
@@ -567,7 +567,7 @@ module _ {R J I : Type 0} (v : View R J I)
       })
 
   -- it may be told
-  pub tells-end : (did : Performed J (Both I)) (c : Connection R) (u : Turn J) → c.waits.client ≡ true → c.waits.asks ≡ None → To (plain stage.Busy) did c u (told_end true)
+  pub tells-end : (did : Performed J (Both I)) (c : Connection R) (u : Progress J) → c.waits.client ≡ true → c.waits.asks ≡ None → To (plain stage.Busy) did c u (told_end true)
       → ToRun v now seen.ClientEnded did c u (settle (service v) now)
   tells-end did c u client asks h =
       let w = h.within in
@@ -583,13 +583,13 @@ module _ {R J I : Type 0} (v : View R J I)
         leads = h.leads ∙ ap (λ (st : Stage). before u.acts.items (perform (to_run (service v) now (settle (service v) now) st seen.ClientEnded) h.ledger h.inner)) (sym busy);
       }
 
-  pub ends-flush : (st : Stage) (did : Performed J (Both I)) (c c' : Connection R) (u : Turn J) → c.client.stage ≡ code.Flush → IsSameRun c c' → kept c'.client ≡ record (kept c.client) { ended = true }
+  pub ends-flush : (st : Stage) (did : Performed J (Both I)) (c c' : Connection R) (u : Progress J) → c.client.stage ≡ code.Flush → IsSameRun c c' → kept c'.client ≡ record (kept c.client) { ended = true }
       → To (plain st) did c u (Look (λ b s. ends_at (service v) now s.client.stage s)) → To (plain stage.Flush) did c' u Done
   ends-flush st did c c' u e same client h =
       ends-by (plain stage.Flush) did c c' u Done same client
       (ends-as st stage.Flush did c u (change (λ x. record x { ended = true }) Done) (ap stage_of e) (λ b s. refl) h)
 
-  pub ends-else : (st : Stage) (did : Performed J (Both I)) (c : Connection R) (u : Turn J) → (c.client.stage ≡ code.Busy → ⊥) → (c.client.stage ≡ code.Flush → ⊥)
+  pub ends-else : (st : Stage) (did : Performed J (Both I)) (c : Connection R) (u : Progress J) → (c.client.stage ≡ code.Busy → ⊥) → (c.client.stage ≡ code.Flush → ⊥)
       → To (plain st) did c u (Look (λ b s. ends_at (service v) now s.client.stage s)) → To (plain st) did c u finish
   ends-else st did c u f g h =
       let at = sym (ap (λ (k : Kept). k.stage) h.within.serves.client) in record {

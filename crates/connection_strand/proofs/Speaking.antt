@@ -21,7 +21,7 @@ use Rattle.connection_strand.specs.declared.client.Reply as code
 use Rattle.connection_strand.specs.declared.client.Reply.TheVariants as own
 use Rattle.connection_strand.specs.Views.{View, service}
 use Rattle.connection_strand.specs.declared.state.Connection.{Connection}
-use Rattle.connection_strand.specs.declared.state.Turn.{Turn}
+use Rattle.connection_strand.specs.declared.state.Progress.{Progress}
 use Rattle.connection_strand.specs.Kept.{Kept, kept, kept_of, reply_of, waits_of}
 use Rattle.connection_strand.specs.Standing.{Moment, plain, taking, IsOn, HasRun, Toward, before, at_end, places}
 use Rattle.connection_strand.proofs.Moving.{IsSameRun, stays-within}
@@ -39,11 +39,11 @@ may_come k = k.opened && not k.ended && is_more (body_answer k.came k.limit)
 
 module _ {R J I : Type 0} (v : View R J I)
     (lawful : IsRun v.meaning.plan v.meaning.holds) (apart : (x : R) (b c : Ledger J) (r : I) → AreAlike b c → v.meaning.stands x b r → v.meaning.stands x c r) where
-  abbrev pub To : Moment J → Performed J (Both I) → Connection R → Turn J → Move J (Both I) → Type 0
+  abbrev pub To : Moment J → Performed J (Both I) → Connection R → Progress J → Move J (Both I) → Type 0
   To e did c u m = Toward v e did c u m
 
   -- the client changes, but for its stage
-  pub changes : (f : Client → Client) (k : Kept → Kept) (e : Moment J) (did : Performed J (Both I)) (c c' : Connection R) (u : Turn J) (m : Move J (Both I))
+  pub changes : (f : Client → Client) (k : Kept → Kept) (e : Moment J) (did : Performed J (Both I)) (c c' : Connection R) (u : Progress J) (m : Move J (Both I))
       → ((b : Ledger J) (x : Client) → k (kept_of b x) ≡ kept_of b (f x)) → ((x : Client) → (f x).stage ≡ x.stage)
       → IsSameRun c c' → kept c'.client ≡ k (kept c.client) → To e did c u (change f m) → To e did c' u m
   changes f k e did c c' u m so stays same client h =
@@ -70,7 +70,7 @@ module _ {R J I : Type 0} (v : View R J I)
       }
 
   -- while nothing of the reply was sent, the first wait lets the client send the body
-  pub lets : (e : Moment J) (did : Performed J (Both I)) (c c' : Connection R) (u : Turn J) (m : Move J (Both I)) (x : Bool)
+  pub lets : (e : Moment J) (did : Performed J (Both I)) (c c' : Connection R) (u : Progress J) (m : Move J (Both I)) (x : Bool)
       → (kept c.client).reply ≡ Unsent → c.client.waited ≡ false → c.client.expects ≡ x → IsSameRun c c' → kept c'.client ≡ record (kept c.client) { waited = true }
       → To e did c u (Look (λ b s. let_send (service v) 0 s.client s.client.reply m)) → To e did c' u (if x then send (service v) 0 continue_reply m else m)
   lets e did c c' u m x unsent unwaited expects same client h =
@@ -91,7 +91,7 @@ module _ {R J I : Type 0} (v : View R J I)
             ∙ ap (λ (y : Bool). before u.acts.items (perform (change (λ k. record k { waited = true }) (rest y)) b s)) asks;
       })
 
-  pub lets-reply : (bytes : List ℕ) (e : Moment J) (did : Performed J (Both I)) (c c' : Connection R) (u : Turn J) (m : Move J (Both I)) → bytes ≡ continue_reply
+  pub lets-reply : (bytes : List ℕ) (e : Moment J) (did : Performed J (Both I)) (c c' : Connection R) (u : Progress J) (m : Move J (Both I)) → bytes ≡ continue_reply
       → (kept c.client).reply ≡ Unsent → c.client.waited ≡ false → c.client.expects ≡ true → IsSameRun c c' → kept c'.client ≡ record (kept c.client) { waited = true }
       → To e did c u (Look (λ b s. let_send (service v) 0 s.client s.client.reply m)) → To e did c' u (send (service v) 0 bytes m)
   lets-reply bytes e did c c' u m is unsent unwaited expects same client h =
@@ -103,7 +103,7 @@ module _ {R J I : Type 0} (v : View R J I)
   is-begun stage.Begun h c m = refl
   is-begun (stage.Whole closes) h c m = refl
 
-  pub lets-begun : (e : Moment J) (did : Performed J (Both I)) (c : Connection R) (u : Turn J) (m : Move J (Both I)) → ((kept c.client).reply ≡ Unsent → ⊥)
+  pub lets-begun : (e : Moment J) (did : Performed J (Both I)) (c : Connection R) (u : Progress J) (m : Move J (Both I)) → ((kept c.client).reply ≡ Unsent → ⊥)
       → To e did c u (Look (λ b s. let_send (service v) 0 s.client s.client.reply m)) → To e did c u m
   lets-begun e did c u m begun h =
       let b = h.ledger in
@@ -117,7 +117,7 @@ module _ {R J I : Type 0} (v : View R J I)
   waited-sends stage.Begun c m e = refl
   waited-sends (stage.Whole closes) c m e = refl
 
-  pub lets-waited : (e : Moment J) (did : Performed J (Both I)) (c : Connection R) (u : Turn J) (m : Move J (Both I)) → c.client.waited ≡ true
+  pub lets-waited : (e : Moment J) (did : Performed J (Both I)) (c : Connection R) (u : Progress J) (m : Move J (Both I)) → c.client.waited ≡ true
       → To e did c u (Look (λ b s. let_send (service v) 0 s.client s.client.reply m)) → To e did c u m
   lets-waited e did c u m waited h =
       let b = h.ledger in
@@ -131,10 +131,10 @@ module _ {R J I : Type 0} (v : View R J I)
   abbrev pub awaits : Connection R → Bool
   awaits c = c.waits.body && may_come (kept c.client)
 
-  abbrev Awaits : ℕ → Performed J (Both I) → Connection R → Turn J → Move J (Both I) → Type 0
+  abbrev Awaits : ℕ → Performed J (Both I) → Connection R → Progress J → Move J (Both I) → Type 0
   Awaits now did c u m = To (plain stage.Busy) did c u (await_body (service v) now m)
 
-  awaits-is : (now : ℕ) (did : Performed J (Both I)) (c : Connection R) (u : Turn J) (m : Move J (Both I)) (h : Awaits now did c u m) (x : Bool) → awaits c ≡ x
+  awaits-is : (now : ℕ) (did : Performed J (Both I)) (c : Connection R) (u : Progress J) (m : Move J (Both I)) (h : Awaits now did c u m) (x : Bool) → awaits c ≡ x
       → did ≡ before u.acts.items (perform (if x then wait_more (service v) now h.inner.client m else m) h.ledger h.inner)
   awaits-is now did c u m h x is =
       let b = h.ledger in
@@ -144,11 +144,11 @@ module _ {R J I : Type 0} (v : View R J I)
       ∙ ap (λ (k : Kept). before u.acts.items (perform (if c.waits.body && may_come k then wait_more (service v) now s.client m else m) b s)) (sym h.within.serves.client)
       ∙ ap (λ (y : Bool). before u.acts.items (perform (if y then wait_more (service v) now s.client m else m) b s)) is
 
-  pub awaits-body : (now : ℕ) (did : Performed J (Both I)) (c : Connection R) (u : Turn J) (m : Move J (Both I)) → awaits c ≡ true
+  pub awaits-body : (now : ℕ) (did : Performed J (Both I)) (c : Connection R) (u : Progress J) (m : Move J (Both I)) → awaits c ≡ true
       → Awaits now did c u m → To (plain stage.Busy) did c u (Look (λ b s. wait_more (service v) now s.client m))
   awaits-body now did c u m is h = record { ledger = h.ledger; inner = h.inner; within = h.within; leads = awaits-is now did c u m h true is }
 
-  pub awaits-none : (now : ℕ) (did : Performed J (Both I)) (c : Connection R) (u : Turn J) (m : Move J (Both I)) → awaits c ≡ false
+  pub awaits-none : (now : ℕ) (did : Performed J (Both I)) (c : Connection R) (u : Progress J) (m : Move J (Both I)) → awaits c ≡ false
       → Awaits now did c u m → To (plain stage.Busy) did c u m
   awaits-none now did c u m is h = record { ledger = h.ledger; inner = h.inner; within = h.within; leads = awaits-is now did c u m h false is }
 
@@ -185,7 +185,7 @@ module _ {R J I : Type 0} (v : View R J I)
   waits-now st o w x b r e h = subst (λ (y : Waits). HasRun v st o y b r) e h
 
   -- it is said: what it does is still to come
-  pub said-so : (w : Said) (st : Stage) (ds : List Deed) (a : Asks J) (rest : List (RunAct J)) (did : Performed J (Both I)) (c c' : Connection R) (u : Turn J) (m : Move J (Both I)) → IsOther w
+  pub said-so : (w : Said) (st : Stage) (ds : List Deed) (a : Asks J) (rest : List (RunAct J)) (did : Performed J (Both I)) (c c' : Connection R) (u : Progress J) (m : Move J (Both I)) → IsOther w
       → c' ≡ record c { waits = c'.waits } → waits_of c'.waits ≡ waits_said w (waits_of c.waits)
       → To (taking st (Say w ∷ ds) a (made.Say w ∷ rest)) did c u m → To (taking st ds a rest) did c' u m
   said-so w st ds a rest did c c' u m other same waits h =
@@ -220,7 +220,7 @@ module _ {R J I : Type 0} (v : View R J I)
       }
 
   -- the last one: nothing of the run is left
-  pub flushes : (st : Stage) (ds : List Deed) (a : Asks J) (rest : List (RunAct J)) (did : Performed J (Both I)) (c c' : Connection R) (u : Turn J) (m : Move J (Both I))
+  pub flushes : (st : Stage) (ds : List Deed) (a : Asks J) (rest : List (RunAct J)) (did : Performed J (Both I)) (c c' : Connection R) (u : Progress J) (m : Move J (Both I))
       → c'.sockets.items ≡ c.sockets.items → c'.count ≡ c.count → c'.keeping ≡ c.keeping → c'.is_taking ≡ c.is_taking
       → kept c'.client ≡ record (kept c.client) { stage = stage.Flush }
       → To (taking st (Say said.Over ∷ ds) a (made.Say said.Over ∷ rest)) did c u (change (λ k. record k { stage = stage.Flush }) m) → To (taking stage.Flush ds a rest) did c' u m

@@ -18,7 +18,7 @@ use Rattle.connection_plan.specs.Services.{Both}
 use Rattle.connection_plan.specs.Turns.{is_there, run_turn}
 use Rattle.connection_strand.specs.Views.{View, service}
 use Rattle.connection_strand.specs.declared.state.Connection.{Connection}
-use Rattle.connection_strand.specs.declared.state.Turn.{Turn}
+use Rattle.connection_strand.specs.declared.state.Progress.{Progress}
 use Rattle.connection_strand.specs.Kept.{kept, waits_of}
 use Rattle.connection_strand.specs.Standing.{Serves, before, places}
 use Rattle.connection_strand.specs.Turns.{Told, Answered, Took}
@@ -31,7 +31,7 @@ pub record IsSameClient {R : Type 0} (c c' : Connection R) : Type 0 where
   pub keeping : c'.keeping ≡ c.keeping
   pub taking : c'.is_taking ≡ c.is_taking
 
-pub serves-same : {R J I : Type 0} (c c' : Connection R) (u : Turn J) (b : Ledger J) (s : Both I) → IsSameClient c c' → Serves c u b s → Serves c' u b s
+pub serves-same : {R J I : Type 0} (c c' : Connection R) (u : Progress J) (b : Ledger J) (s : Both I) → IsSameClient c c' → Serves c u b s → Serves c' u b s
 serves-same c c' u b s x w = record {
   client = ap kept x.client ∙ w.client;
   sockets = w.sockets ∙ ap (λ v. places (is_there b) v.items) (sym x.sockets);
@@ -69,7 +69,7 @@ did-asking (Log line ∷ ds) q w = did-asking ds q w
 
 module _ {R J I : Type 0} (v : View R J I) (now : ℕ) where
   -- a turn that the run took is to be taken
-  pub took-turn : (t : runs.Turn J I) (next : RunTurn J) (did : Performed J (Both I)) (c : Connection R) (u : Turn J) (m : Move J (Both I)) (b : Ledger J) (s : Both I) (run : R)
+  pub took-turn : (t : runs.Turn J I) (next : RunTurn J) (did : Performed J (Both I)) (c : Connection R) (u : Progress J) (m : Move J (Both I)) (b : Ledger J) (s : Both I) (run : R)
       → Serves c u b s → s.client.stage ≡ stage.Busy → c.run ≡ Some run → calls.Took v.meaning t b run next → Leaves v.meaning.plan v.meaning.holds (waits_of c.waits) t b
       → did ≡ before u.acts.items (perform (run_turn (service v) now t m) b s) → Took v now next did c u m
   took-turn t next did c u m b s run serves busy is took left leads = (
@@ -103,7 +103,7 @@ module _ {R J I : Type 0} (v : View R J I) (now : ℕ) where
   )
 
 module _ {R J I : Type 0} (v : View R J I) (lawful : IsRun v.meaning.plan v.meaning.holds) (now : ℕ) where
-  pub told-takes : (x : RunSeen) (next : RunTurn J) (did : Performed J (Both I)) (c c' : Connection R) (u : Turn J) (m : Move J (Both I)) (old new : R)
+  pub told-takes : (x : RunSeen) (next : RunTurn J) (did : Performed J (Both I)) (c c' : Connection R) (u : Progress J) (m : Move J (Both I)) (old new : R)
       → c.run ≡ Some old → c'.run ≡ Some new → calls.TakesTurn v.meaning now x old new next → IsSameClient c c'
       → waits_of c'.waits ≡ waits_told x (waits_of c.waits) → Told v now x did c u m → Took v now next did c' u m
   told-takes x next did c c' u m old new was is takes same waits h =
@@ -114,7 +114,7 @@ module _ {R J I : Type 0} (v : View R J I) (lawful : IsRun v.meaning.plan v.mean
       (subst (λ (w : Waits). Leaves v.meaning.plan v.meaning.holds w t b) (ap (waits_told x) (sym h.waits) ∙ sym waits) (lawful.stays now x h.ledger h.inner.run h.known h.comes))
       h.leads
 
-  pub answered-takes : (given : Answer) (next : RunTurn J) (did : Performed J (Both I)) (c c' : Connection R) (u : Turn J) (m : Move J (Both I)) (old new : R)
+  pub answered-takes : (given : Answer) (next : RunTurn J) (did : Performed J (Both I)) (c c' : Connection R) (u : Progress J) (m : Move J (Both I)) (old new : R)
       → c.run ≡ Some old → c'.run ≡ Some new → calls.TakesAnswer v.meaning now given old new next → IsSameClient c c'
       → c'.waits ≡ c.waits → Answered v now given did c u m → Took v now next did c' u m
   answered-takes given next did c c' u m old new was is takes same waits h =

@@ -28,7 +28,7 @@ use Rattle.connection_plan.specs.Connections.{connection_plan, connection_behavi
 use Rattle.connection_plan.proofs.Meets.{meets}
 use Rattle.connection_strand.specs.Views.{View, service, Known}
 use Rattle.connection_strand.specs.declared.state.Connection.{Connection}
-use Rattle.connection_strand.specs.declared.state.Turn.{Turn}
+use Rattle.connection_strand.specs.declared.state.Progress.{Progress}
 use Rattle.connection_strand.specs.Kept.{kept, kept_of}
 use Rattle.connection_strand.specs.Standing.{Came, before}
 use Rattle.connection_strand.specs.Following.{Follows, turn_begun}
@@ -76,7 +76,7 @@ module _ {J I : Type 0} (site : Service J I) where
       ∙ ap (λ (n : ℕ). perform (connection_turn site n (Did a) b st.inner) b st.inner) m
 
 -- a connection that came to it follows the plan
-pub follows-by : {R J I : Type 0} (v : View R J I) (a : Action J) (es : List (LocalAction J)) (c : Connection R) (u : Turn J) → is_still (Did a) ≡ false
+pub follows-by : {R J I : Type 0} (v : View R J I) (a : Action J) (es : List (LocalAction J)) (c : Connection R) (u : Progress J) → is_still (Did a) ≡ false
     → Came v (turned (service v) a es) c u → Follows v c (Did a ∷ es) × (u.acts.items ≡ acts_of (connection_plan (service v)) (Did a ∷ es))
 follows-by v a es c u e x = (
   record { stays = x.stays; taking = λ there. x.taking there ∙ ap (is_place place.Client) (sym (begun-is (connection_plan (service v)) (Did a ∷ es)) ∙ begins-turn (service v) a es e) },
@@ -152,7 +152,7 @@ module _ {R J I : Type 0} (v : View R J I) (lawful : IsRun v.meaning.plan v.mean
 
   -- ---- the turn
 
-  pub may-show : (now : ℕ) (x : Seen) (es : List (LocalAction J)) (c : Connection R) (taking : Bool) (u : Turn J) → Follows v c es → now ≡ moment es → IsShown x es
+  pub may-show : (now : ℕ) (x : Seen) (es : List (LocalAction J)) (c : Connection R) (taking : Bool) (u : Progress J) → Follows v c es → now ≡ moment es → IsShown x es
       → taking ≡ takes_as x → u.is_offered ≡ offered_as x (kept c.client) → u.acts.items ≡ []
       → Shown v now x (turned (service v) (action_of (connection_behavior (service v)) es x) es) (record c { keeping = None; is_taking = taking }) u
   may-show now x es c taking u follows at f takes offered acts =

@@ -5,7 +5,7 @@ use Rattle.client_line.specs.declared.requests.LineOut.TheVariants as out
 use Rattle.connection_plan.specs.Clients.{Stage, is_last}
 use Rattle.connection_plan.specs.Clients as stage
 use Rattle.connection_strand.specs.declared.state.Connection.{Connection}
-use Rattle.connection_strand.specs.declared.state.Turn.{Turn}
+use Rattle.connection_strand.specs.declared.state.Progress.{Progress}
 use Rattle.connection_strand.specs.Kept.{Kept, kept}
 
 -- what one turn, act or word of a run pays for: all acts and bytes to which it leads
@@ -40,27 +40,27 @@ module _ {R : Type 0} (left : R → ℕ) (bound : ℕ) where
   left_of c = left_at (kept c.client).stage (whole c)
 
   -- a call adds at most so much to what is left and to the acts so far; it takes at least so much of them; it adds no more, and may end the life
-  abbrev pub Spends : {J : Type 0} → ℕ → Connection R → Turn J → Connection R → Turn J → Type 0
+  abbrev pub Spends : {J : Type 0} → ℕ → Connection R → Progress J → Connection R → Progress J → Type 0
   Spends n c u c' u' = whole c' + length u'.acts.items ≤ whole c + length u.acts.items + n
 
-  abbrev pub Pays : {J : Type 0} → ℕ → Connection R → Turn J → Connection R → Turn J → Type 0
+  abbrev pub Pays : {J : Type 0} → ℕ → Connection R → Progress J → Connection R → Progress J → Type 0
   Pays n c u c' u' = whole c' + length u'.acts.items + n ≤ whole c + length u.acts.items
 
-  abbrev pub Costs : {J : Type 0} → ℕ → Connection R → Turn J → Connection R → Turn J → Type 0
+  abbrev pub Costs : {J : Type 0} → ℕ → Connection R → Progress J → Connection R → Progress J → Type 0
   Costs n c u c' u' = left_of c' + length u'.acts.items ≤ whole c + length u.acts.items + n
 
   -- it pays for itself, and for one more
-  abbrev pub Falls : {J : Type 0} → Connection R → Turn J → Connection R → Turn J → Type 0
+  abbrev pub Falls : {J : Type 0} → Connection R → Progress J → Connection R → Progress J → Type 0
   Falls c u c' u' = left_of c' + length u'.acts.items < whole c + length u.acts.items
 
   -- what is heard: a request begins a run; the reply to a head that is refused is paid for, and a wait arms a deadline, and with these the turn ends
-  abbrev pub Heard : {J : Type 0} → LineOut → Bool → Connection R → Turn J → Connection R → Turn J → Type 0
+  abbrev pub Heard : {J : Type 0} → LineOut → Bool → Connection R → Progress J → Connection R → Progress J → Type 0
   Heard (out.Request head target) on c u c' u' = Spends (unit * (bound + 1)) c u c' u'
   Heard answer true c u c' u' = ⊥
   Heard (out.Refused code) false c u c' u' = Costs 0 c u c' u'
   Heard answer false c u c' u' = Costs 5 c u c' u'
 
   -- one that settles pays where it goes on
-  abbrev pub Settles : {J : Type 0} → Bool → Connection R → Turn J → Connection R → Turn J → Type 0
+  abbrev pub Settles : {J : Type 0} → Bool → Connection R → Progress J → Connection R → Progress J → Type 0
   Settles true c u c' u' = Pays 1 c u c' u'
   Settles false c u c' u' = Costs 5 c u c' u'

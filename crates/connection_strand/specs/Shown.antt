@@ -29,7 +29,7 @@ use Rattle.connection_strand.specs.declared.sights.Event.TheVariants as event
 use Rattle.connection_strand.specs.declared.sights.Sight.{Sight}
 use Rattle.connection_strand.specs.declared.sights.Sight.TheVariants as sight
 use Rattle.connection_strand.specs.declared.state.Connection.{Connection}
-use Rattle.connection_strand.specs.declared.state.Turn.{Turn}
+use Rattle.connection_strand.specs.declared.state.Progress.{Progress}
 use Rattle.connection_strand.specs.Kept.{Kept, kept, kept_of, waits_of, wants_offer}
 use Rattle.connection_strand.specs.Standing.{IsOn, HasRun, Serves, Came, Went, before, places}
 use Rattle.connection_strand.specs.Views.{View, service}
@@ -102,7 +102,7 @@ module _ {R J I : Type 0} (v : View R J I) where
 
 module _ {R J I : Type 0} (v : View R J I) (now : ℕ) where
   -- a turn that begins with what it is shown; the ledger is that before this was entered
-  pub record Shown (x : Seen) (did : Performed J (Both I)) (c : Connection R) (u : Turn J) : Type 0 where
+  pub record Shown (x : Seen) (did : Performed J (Both I)) (c : Connection R) (u : Progress J) : Type 0 where
     pub ledger : Ledger J
     pub inner : Both I
     pub client : kept c.client ≡ kept_of ledger inner.client
@@ -122,15 +122,15 @@ module _ {R J I : Type 0} (v : View R J I) (now : ℕ) where
     pub leads : did ≡ before u.acts.items
         (let b = entered (Did (action_by ledger x)) ledger in perform (connection_turn (service v) now (Did (action_by ledger x)) b inner) b inner)
 
-  abbrev pub MayShow : Seen → Connection R → Turn J → Type 0
+  abbrev pub MayShow : Seen → Connection R → Progress J → Type 0
   MayShow x c u = (did : Performed J (Both I)) × Shown x did c u
 
   -- its turn comes to its end
-  abbrev pub Shows : Seen → Connection R → Turn J → Connection R → Turn J → Type 0
+  abbrev pub Shows : Seen → Connection R → Progress J → Connection R → Progress J → Type 0
   Shows x c u c' u' = (did : Performed J (Both I)) → Shown x did c u → Came v did c' u'
 
   -- a turn in which a run that goes on is told this, and then these moves come
-  pub record ToRun (x : RunSeen) (did : Performed J (Both I)) (c : Connection R) (u : Turn J) (m : Move J (Both I)) : Type 0 where
+  pub record ToRun (x : RunSeen) (did : Performed J (Both I)) (c : Connection R) (u : Progress J) (m : Move J (Both I)) : Type 0 where
     pub ledger : Ledger J
     pub inner : Both I
     pub serves : Serves c u (entered_as x ledger) inner
@@ -140,17 +140,17 @@ module _ {R J I : Type 0} (v : View R J I) (now : ℕ) where
     pub goes_on : is_of_client x ≡ false → is_own_turn x ≡ true → inner.client.stage ≡ stage.Busy
     pub leads : did ≡ before u.acts.items (perform (to_run (service v) now m inner.client.stage x) (entered_as x ledger) inner)
 
-  abbrev pub MayTellRun : RunSeen → Connection R → Turn J → Type 0
+  abbrev pub MayTellRun : RunSeen → Connection R → Progress J → Type 0
   MayTellRun x c u = (did : Performed J (Both I)) × (m : Move J (Both I)) × ToRun x did c u m
 
-  abbrev pub TellsRun : RunSeen → Bool → Connection R → Turn J → Connection R → Turn J → Type 0
+  abbrev pub TellsRun : RunSeen → Bool → Connection R → Progress J → Connection R → Progress J → Type 0
   TellsRun x on c u c' u' = (did : Performed J (Both I)) (m : Move J (Both I)) → ToRun x did c u m → Went v on did c' u' m
 
   -- and then what is there is settled
-  abbrev pub MayGoOn : RunSeen → Connection R → Turn J → Type 0
+  abbrev pub MayGoOn : RunSeen → Connection R → Progress J → Type 0
   MayGoOn x c u = (did : Performed J (Both I)) × ToRun x did c u (settle (service v) now)
 
-  abbrev pub GoesOn : RunSeen → Connection R → Turn J → Connection R → Turn J → Type 0
+  abbrev pub GoesOn : RunSeen → Connection R → Progress J → Connection R → Progress J → Type 0
   GoesOn x c u c' u' = (did : Performed J (Both I)) → ToRun x did c u (settle (service v) now) → Came v did c' u'
 
 module _ {J I : Type 0} (site : Service J I) (now : ℕ) where

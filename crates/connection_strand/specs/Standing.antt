@@ -18,7 +18,7 @@ use Rattle.connection_plan.specs.Services.{Both}
 use Rattle.connection_plan.specs.Turns.{is_there}
 use Rattle.connection_plan.specs.Conditions.{AgreesWithin}
 use Rattle.connection_strand.specs.declared.state.Connection.{Connection}
-use Rattle.connection_strand.specs.declared.state.Turn.{Turn}
+use Rattle.connection_strand.specs.declared.state.Progress.{Progress}
 use Rattle.connection_strand.specs.Kept.{kept, kept_of, waits_of}
 use Rattle.connection_strand.specs.Views.{View}
 
@@ -80,7 +80,7 @@ module _ {R J I : Type 0} (v : View R J I) where
     pub run : HasRun s.client.stage c.run (waits_of c.waits) b s.run
 
 -- within a turn: the client and the sockets are as the plan has them, and so is whether the client's offer is queued or begun
-pub record Serves {R J I : Type 0} (c : Connection R) (u : Turn J) (b : Ledger J) (s : Both I) : Type 0 where
+pub record Serves {R J I : Type 0} (c : Connection R) (u : Progress J) (b : Ledger J) (s : Both I) : Type 0 where
   pub client : kept c.client ≡ kept_of b s.client
   pub sockets : b.opened ≡ places (is_there b) c.sockets.items
   pub count : c.count ≡ b.count
@@ -102,7 +102,7 @@ before acts did = record { state = did.state; acts = acts ++ did.acts }
 
 module _ {R J I : Type 0} (v : View R J I) where
   -- and the run
-  pub record Within (e : Moment J) (c : Connection R) (u : Turn J) (b : Ledger J) (s : Both I) : Type 0 where
+  pub record Within (e : Moment J) (c : Connection R) (u : Progress J) (b : Ledger J) (s : Both I) : Type 0 where
     pub serves : Serves c u b s
     pub at : s.client.stage ≡ e.stage
     pub run : HasRun v e.stage c.run (waits_did e.does (waits_of c.waits)) (at_end e b) s.run
@@ -111,56 +111,56 @@ module _ {R J I : Type 0} (v : View R J I) where
     pub made : e.rest ≡ made_of e b
 
   -- at some moment of a turn, at this stage or another
-  abbrev pub IsAt : Stage → Connection R → Turn J → Type 0
+  abbrev pub IsAt : Stage → Connection R → Progress J → Type 0
   IsAt st c u = (b : Ledger J) × (s : Both I) × Within (plain st) c u b s
 
-  abbrev pub IsWithin : Connection R → Turn J → Type 0
+  abbrev pub IsWithin : Connection R → Progress J → Type 0
   IsWithin c u = (st : Stage) × IsAt st c u
 
   -- while no run is there
-  abbrev pub IsFreeAt : Connection R → Turn J → Type 0
+  abbrev pub IsFreeAt : Connection R → Progress J → Type 0
   IsFreeAt c u = (st : Stage) × IsFree st × IsAt st c u
 
   -- a turn that comes to `did`: its acts so far, and then these moves
-  pub record Toward (e : Moment J) (did : Performed J (Both I)) (c : Connection R) (u : Turn J) (m : Move J (Both I)) : Type 0 where
+  pub record Toward (e : Moment J) (did : Performed J (Both I)) (c : Connection R) (u : Progress J) (m : Move J (Both I)) : Type 0 where
     pub ledger : Ledger J
     pub inner : Both I
     pub within : Within e c u ledger inner
     pub leads : did ≡ before u.acts.items (perform m ledger inner)
 
   -- a turn that came to it: nothing is left of it
-  pub record Came (did : Performed J (Both I)) (c : Connection R) (u : Turn J) : Type 0 where
+  pub record Came (did : Performed J (Both I)) (c : Connection R) (u : Progress J) : Type 0 where
     pub acts : did.acts ≡ u.acts.items
     pub stays : did.state.ledger.ended ≡ false → Stays v c did.state.ledger did.state.inner
     pub taking : is_there did.state.ledger ≡ true → c.is_taking ≡ is_place place.Client did.state.ledger.begun
 
   -- a turn that goes on with these moves, or came to its end
-  abbrev pub Went : Bool → Performed J (Both I) → Connection R → Turn J → Move J (Both I) → Type 0
+  abbrev pub Went : Bool → Performed J (Both I) → Connection R → Progress J → Move J (Both I) → Type 0
   Went true did c u m = (st : Stage) × Toward (plain st) did c u m
   Went false did c u m = Came did c u
 
   -- ---- what a call does
 
   -- it makes these moves, whatever comes after them
-  abbrev pub Goes : (Move J (Both I) → Move J (Both I)) → Connection R → Turn J → Connection R → Turn J → Type 0
+  abbrev pub Goes : (Move J (Both I) → Move J (Both I)) → Connection R → Progress J → Connection R → Progress J → Type 0
   Goes f c u c' u' = (e : Moment J) (did : Performed J (Both I)) (m : Move J (Both I)) → Toward e did c u (f m) → Toward e did c' u' m
 
   -- it makes them at this stage, between the run's turns
-  abbrev pub GoesAt : Stage → (Move J (Both I) → Move J (Both I)) → Connection R → Turn J → Connection R → Turn J → Type 0
+  abbrev pub GoesAt : Stage → (Move J (Both I) → Move J (Both I)) → Connection R → Progress J → Connection R → Progress J → Type 0
   GoesAt st f c u c' u' = (did : Performed J (Both I)) (m : Move J (Both I)) → Toward (plain st) did c u (f m) → Toward (plain st) did c' u' m
 
   -- its turn ends with them
-  abbrev pub Ends : Move J (Both I) → Connection R → Turn J → Connection R → Turn J → Type 0
+  abbrev pub Ends : Move J (Both I) → Connection R → Progress J → Connection R → Progress J → Type 0
   Ends m c u c' u' = (st : Stage) (did : Performed J (Both I)) → Toward (plain st) did c u m → Came did c' u'
 
   -- it makes them at this stage, and goes on with what comes after them, or its turn ends
-  abbrev pub GoesOn : Stage → Bool → (Move J (Both I) → Move J (Both I)) → Connection R → Turn J → Connection R → Turn J → Type 0
+  abbrev pub GoesOn : Stage → Bool → (Move J (Both I) → Move J (Both I)) → Connection R → Progress J → Connection R → Progress J → Type 0
   GoesOn st on f c u c' u' = (did : Performed J (Both I)) (m : Move J (Both I)) → Toward (plain st) did c u (f m) → Went on did c' u' m
 
   -- the same where no run is
-  abbrev pub Hears : Bool → (Move J (Both I) → Move J (Both I)) → Connection R → Turn J → Connection R → Turn J → Type 0
+  abbrev pub Hears : Bool → (Move J (Both I) → Move J (Both I)) → Connection R → Progress J → Connection R → Progress J → Type 0
   Hears on f c u c' u' = (st : Stage) → IsFree st → GoesOn st on f c u c' u'
 
   -- it makes some of these moves, and goes on with them, or its turn ends
-  abbrev pub Steps : Bool → Move J (Both I) → Connection R → Turn J → Connection R → Turn J → Type 0
+  abbrev pub Steps : Bool → Move J (Both I) → Connection R → Progress J → Connection R → Progress J → Type 0
   Steps on m c u c' u' = (st : Stage) (did : Performed J (Both I)) → Toward (plain st) did c u m → Went on did c' u' m

@@ -1,7 +1,7 @@
 //! Requests in turn: heads that are heard, and what is waited for; and the end of a client.
 
 use crate::client::{Reply, Stage, Timer};
-use crate::state::{Connection, Turn, both, ended, going, put, put_if};
+use crate::state::{Connection, Progress, Turn, both, ended, going, put, put_if};
 use crate::waits::Waits;
 use client_line::{Held, LineOut};
 use connection_plan::ServiceContract;
@@ -29,12 +29,12 @@ impl<R: ServiceContract> Connection<R> {
     ghost use Rattle.connection_strand.specs.Turns.{IsAnswered, IsRefusedAt};
 
     /// Its open sockets are hung up.
-    fn hang_up_sockets(&self, turn: &mut Turn<R::Job>) -> Result<(), AllocError>
-        ensures acts { IfOk result (λ done. turn.new.acts.items ≡ turn.old.acts.items ++ hang_ups self.now.sockets.items) }
-        ensures offered { turn.new.is_offered ≡ turn.old.is_offered }
+    fn hang_up_sockets(&self, progress: &mut Progress<R::Job>) -> Result<(), AllocError>
+        ensures acts { IfOk result (λ done. progress.new.acts.items ≡ progress.old.acts.items ++ hang_ups self.now.sockets.items) }
+        ensures offered { progress.new.is_offered ≡ progress.old.is_offered }
     {
         for socket in &self.sockets {
-            put(&mut turn.acts, Act::HangUp(Place::Sock(*socket)))?;
+            put(&mut progress.acts, Act::HangUp(Place::Sock(*socket)))?;
         }
         Ok(())
     }
@@ -42,65 +42,69 @@ impl<R: ServiceContract> Connection<R> {
     /// The life is over: what is open is hung up.
     pub(crate) fn finish(
         &mut self,
-        turn: &mut Turn<R::Job>,
         _site: &R::Site,
+        progress: &mut Progress<R::Job>,
     ) -> Result<(), AllocError>
         ensures moves { let view = view_of (R.meaning _site.now) (R.serving _site.now) in IfOk result (λ done. Ends view
-            finish self.old turn.old self.new turn.new) }
-        ensures costs { IfOk result (λ done. Costs R.left R.bound 0 self.old turn.old self.new turn.new) }
-        ensures falls { IfOk result (λ done. Falls R.left R.bound self.old turn.old self.new turn.new) }
+            finish self.old progress.old self.new progress.new) }
+        ensures costs { IfOk result (λ done. Costs R.left R.bound 0 self.old progress.old self.new progress.new) }
+        ensures falls { IfOk result (λ done. Falls R.left R.bound self.old progress.old self.new progress.new) }
     {
         let client = put_if(
             self.client.is_open,
-            &mut turn.acts,
+            &mut progress.acts,
             Act::HangUp(Place::Client),
         );
-        let sockets = self.hang_up_sockets(turn);
+        let sockets = self.hang_up_sockets(progress);
         self.client.stage = Stage::Over;
-        let gone = put(&mut turn.acts, Act::Gone);
+        let gone = put(&mut progress.acts, Act::Gone);
         both(client, both(sockets, gone))
     }
 
     /// The client is hung up, and nothing of it is waited for.
-    fn let_client_go(&mut self, turn: &mut Turn<R::Job>, site: &R::Site) -> Result<(), AllocError>
+    fn let_client_go(
+        &mut self,
+        site: &R::Site,
+        progress: &mut Progress<R::Job>,
+    ) -> Result<(), AllocError>
         ensures moves { let view = view_of (R.meaning site.now) (R.serving site.now) in IfOk result (λ done.
             Goes view
-            (λ m. HangUp place.Client (end_timer (service view) 0 timer.Body (end_timer (service view) 0 timer.Send m))) self.old turn.old self.new turn.new) }
+            (λ m. HangUp place.Client (end_timer (service view) 0 timer.Body (end_timer (service view) 0 timer.Send m)))
+            self.old progress.old self.new progress.new) }
         ensures waits { self.new.waits ≡ self.old.waits }
-        ensures costs { IfOk result (λ done. Spends R.left R.bound 0 self.old turn.old self.new turn.new) }
-        ensures pays { self.old.client.is_open ≡ true → IfOk result (λ done. Pays R.left R.bound 3 self.old turn.old self.new turn.new) }
+        ensures costs { IfOk result (λ done. Spends R.left R.bound 0 self.old progress.old self.new progress.new) }
+        ensures pays { self.old.client.is_open ≡ true → IfOk result (λ done. Pays R.left R.bound 3 self.old progress.old self.new progress.new) }
     {
         let client = put_if(
             self.client.is_open,
-            &mut turn.acts,
+            &mut progress.acts,
             Act::HangUp(Place::Client),
         );
         self.client.hang_up();
-        let body = self.end_timer(turn, site, Timer::Body);
-        let send = self.end_timer(turn, site, Timer::Send);
+        let body = self.end_timer(site, progress, Timer::Body);
+        let send = self.end_timer(site, progress, Timer::Send);
         both(client, both(body, send))
     }
 
     /// The client is lost: it is hung up, and a run that goes on is told so.
     pub(crate) fn lose(
         &mut self,
-        turn: &mut Turn<R::Job>,
-        alloc: Global,
+        turn: &Turn,
         site: &R::Site,
-        now: Ms,
+        progress: &mut Progress<R::Job>,
     ) -> Result<(), AllocError>
-        requires within { let view = view_of (R.meaning site.now) (R.serving site.now) in IsWithin view self.old turn.old }
+        requires within { let view = view_of (R.meaning site.now) (R.serving site.now) in IsWithin view self.old progress.old }
         requires unasked { IsUnasked self.old }
         ensures moves { let view = view_of (R.meaning site.now) (R.serving site.now) in IfOk result (λ done. Ends view
-            (lose (service view) now.0) self.old turn.old self.new turn.new) }
-        ensures costs { IfOk result (λ done. Costs R.left R.bound 0 self.old turn.old self.new turn.new) }
-        ensures falls { self.old.client.is_open ≡ true → IfOk result (λ done. Falls R.left R.bound self.old turn.old self.new turn.new) }
+            (lose (service view) turn.now.moment.0) self.old progress.old self.new progress.new) }
+        ensures costs { IfOk result (λ done. Costs R.left R.bound 0 self.old progress.old self.new progress.new) }
+        ensures falls { self.old.client.is_open ≡ true → IfOk result (λ done. Falls R.left R.bound self.old progress.old self.new progress.new) }
     {
         match self.client.stage {
-            Stage::Busy => match self.let_client_go(turn, site) {
+            Stage::Busy => match self.let_client_go(site, progress) {
                 Ok(()) => {
                     if self.waits.client {
-                        ended(self.tell(turn, alloc, site, now, RunSeen::ClientGone))
+                        ended(self.tell(turn, site, progress, RunSeen::ClientGone))
                     } else {
                         Ok(())
                     }
@@ -108,7 +112,7 @@ impl<R: ServiceContract> Connection<R> {
                 Err(error) => Err(error),
             },
             Stage::Idle | Stage::Head | Stage::Flush | Stage::Drop | Stage::Over => {
-                self.finish(turn, site)
+                self.finish(site, progress)
             }
         }
     }
@@ -116,64 +120,63 @@ impl<R: ServiceContract> Connection<R> {
     /// A head came: a request begins, and its run takes its first turn. It reports whether the turn goes on.
     fn begin_request(
         &mut self,
-        turn: &mut Turn<R::Job>,
-        alloc: Global,
+        turn: &Turn,
         site: &R::Site,
-        now: Ms,
+        progress: &mut Progress<R::Job>,
         head: Head,
         target: Target,
     ) -> Result<bool, AllocError>
         ensures moves { let view = view_of (R.meaning site.now) (R.serving site.now) in IfOk result (λ on. Hears view on
-            (λ rest. end_timer (service view) now.0 timer.Header (begin (service view) now.0 rest head target)) self.old turn.old self.new turn.new) }
-        ensures costs { IfOk result (λ done. Spends R.left R.bound (unit * (R.bound + 1)) self.old turn.old self.new turn.new) }
+            (λ rest. end_timer (service view) turn.now.moment.0 timer.Header (begin (service view) turn.now.moment.0 rest head target))
+            self.old progress.old self.new progress.new) }
+        ensures costs { IfOk result (λ done. Spends R.left R.bound (unit * (R.bound + 1)) self.old progress.old self.new progress.new) }
     {
         let times = R::times_of(site, &head, &target);
         let expects = head.expects;
-        let begun = R::begin(alloc, site, now, self.count, head, target);
-        let header = self.end_timer(turn, site, Timer::Header);
+        let begun = R::begin(turn.alloc, site, turn.moment, self.count, head, target);
+        let header = self.end_timer(site, progress, Timer::Header);
         self.client.begin_request(times, expects);
         self.waits = Waits::at_first(true);
-        let went = self.take_run(turn, site, now, begun);
+        let went = self.take_run(turn, site, progress, begun);
         both(header, went)
     }
 
     /// Sends the reply to a head that is refused.
     fn send_refusal(
         &mut self,
-        turn: &mut Turn<R::Job>,
-        alloc: Global,
+        turn: &Turn,
         site: &R::Site,
-        now: Ms,
+        progress: &mut Progress<R::Job>,
         code: u16,
     ) -> Result<(), AllocError>
         ensures moves { let view = view_of (R.meaning site.now) (R.serving site.now) in IfOk result (λ done.
-            Goes view (send (service view) 0 (view.serving.refusal code now.0)) self.old turn.old self.new turn.new) }
-        ensures costs { IfOk result (λ done. Spends R.left R.bound unit self.old turn.old self.new turn.new) }
+            Goes view (send (service view) 0 (view.serving.refusal code turn.now.moment.0)) self.old progress.old self.new progress.new) }
+        ensures costs { IfOk result (λ done. Spends R.left R.bound unit self.old progress.old self.new progress.new) }
     {
-        let reply = R::refusal(alloc, site, code, now)?;
+        let reply = R::refusal(turn.alloc, site, code, turn.moment)?;
         let _ = reply.len();
-        self.send(turn, site, &reply)
+        self.send(site, progress, &reply)
     }
 
     /// The client gets the reply to a head that is refused, and the connection closes once that is taken.
     fn refuse_head(
         &mut self,
-        turn: &mut Turn<R::Job>,
-        alloc: Global,
+        turn: &Turn,
         site: &R::Site,
-        now: Ms,
+        progress: &mut Progress<R::Job>,
         code: u16,
     ) -> Result<(), AllocError>
         ensures moves { let view = view_of (R.meaning site.now) (R.serving site.now) in IfOk result (λ done. Hears view false
-            (λ rest. refuse (service view) now.0 (line.Over code) code) self.old turn.old self.new turn.new) }
-        ensures costs { is_last (kept self.old.client).reply ≡ false → IfOk result (λ done. Costs R.left R.bound 0 self.old turn.old self.new turn.new) }
+            (λ rest. refuse (service view) turn.now.moment.0 (line.Over code) code) self.old progress.old self.new progress.new) }
+        ensures costs { is_last (kept self.old.client).reply ≡ false →
+            IfOk result (λ done. Costs R.left R.bound 0 self.old progress.old self.new progress.new) }
     {
         self.client.stage = Stage::Flush;
         self.client.times = R::default_times(site);
         self.client.reply = Reply::Whole(true);
-        let sent = self.send_refusal(turn, alloc, site, now, code);
+        let sent = self.send_refusal(turn, site, progress, code);
         if self.client.is_all_taken() {
-            both(sent, self.finish(turn, site))
+            both(sent, self.finish(site, progress))
         } else {
             sent
         }
@@ -182,44 +185,44 @@ impl<R: ServiceContract> Connection<R> {
     /// A head is refused: nothing more is read; after a fault in a body that is dropped the connection closes.
     fn refuse(
         &mut self,
-        turn: &mut Turn<R::Job>,
-        alloc: Global,
+        turn: &Turn,
         site: &R::Site,
-        now: Ms,
+        progress: &mut Progress<R::Job>,
         code: u16,
     ) -> Result<(), AllocError>
         ensures moves { let view = view_of (R.meaning site.now) (R.serving site.now) in IfOk result (λ done.
             IsRefusedAt self.old.client.line.came.at → Hears view false
-            (λ rest. Look (λ b s. end_timer (service view) now.0 timer.Header (refuse (service view) now.0 s.client.came.at code)))
-            self.old turn.old self.new turn.new) }
-        ensures costs { is_last (kept self.old.client).reply ≡ false → IfOk result (λ done. Costs R.left R.bound 0 self.old turn.old self.new turn.new) }
+            (λ rest. Look (λ b s. end_timer (service view) turn.now.moment.0 timer.Header (refuse (service view) turn.now.moment.0 s.client.came.at code)))
+            self.old progress.old self.new progress.new) }
+        ensures costs { is_last (kept self.old.client).reply ≡ false →
+            IfOk result (λ done. Costs R.left R.bound 0 self.old progress.old self.new progress.new) }
     {
         let held = self.client.line.held();
-        let header = self.end_timer(turn, site, Timer::Header);
+        let header = self.end_timer(site, progress, Timer::Header);
         match held {
-            Held::Begun => both(header, self.refuse_head(turn, alloc, site, now, code)),
-            Held::Request | Held::Body | Held::Nothing => both(header, self.finish(turn, site)),
+            Held::Begun => both(header, self.refuse_head(turn, site, progress, code)),
+            Held::Request | Held::Body | Held::Nothing => both(header, self.finish(site, progress)),
         }
     }
 
     /// More is waited for: a timer begins, or goes on; a client that ended is hung up.
     fn hear_no_more(
         &mut self,
-        turn: &mut Turn<R::Job>,
+        turn: &Turn,
         site: &R::Site,
-        now: Ms,
+        progress: &mut Progress<R::Job>,
         anew: bool,
     ) -> Result<bool, AllocError>
         ensures moves { let view = view_of (R.meaning site.now) (R.serving site.now) in IfOk result (λ on. Hears view on
-            (λ rest. Look (λ b s. heard_by (service view) now.0 anew rest s.client.came s.client.ended answer.Waiting))
-            self.old turn.old self.new turn.new) }
-        ensures costs { IfOk result (λ on. Heard R.left R.bound answer.Waiting on self.old turn.old self.new turn.new) }
+            (λ rest. Look (λ b s. heard_by (service view) turn.now.moment.0 anew rest s.client.came s.client.ended answer.Waiting))
+            self.old progress.old self.new progress.new) }
+        ensures costs { IfOk result (λ on. Heard R.left R.bound answer.Waiting on self.old progress.old self.new progress.new) }
     {
         if self.client.has_ended {
-            going(self.finish(turn, site), false)
+            going(self.finish(site, progress), false)
         } else if anew {
             let timer = self.client.wait();
-            going(self.begin_timer(turn, site, now, timer), false)
+            going(self.begin_timer(turn, site, progress, timer), false)
         } else {
             Ok(false)
         }
@@ -228,26 +231,25 @@ impl<R: ServiceContract> Connection<R> {
     /// What came was answered so. Where more is waited for, a timer begins, or goes on; a client that ended is hung up.
     pub(crate) fn heard(
         &mut self,
-        turn: &mut Turn<R::Job>,
-        alloc: Global,
+        turn: &Turn,
         site: &R::Site,
-        now: Ms,
+        progress: &mut Progress<R::Job>,
         anew: bool,
         out: LineOut,
     ) -> Result<bool, AllocError>
         ensures moves { let view = view_of (R.meaning site.now) (R.serving site.now) in IfOk result (λ on.
             IsAnswered out self.old.client.line.came.at → Hears view on
-            (λ rest. Look (λ b s. heard_by (service view) now.0 anew rest s.client.came s.client.ended out))
-            self.old turn.old self.new turn.new) }
+            (λ rest. Look (λ b s. heard_by (service view) turn.now.moment.0 anew rest s.client.came s.client.ended out))
+            self.old progress.old self.new progress.new) }
         ensures costs { is_last (kept self.old.client).reply ≡ false →
-            IfOk result (λ on. Heard R.left R.bound out on self.old turn.old self.new turn.new) }
+            IfOk result (λ on. Heard R.left R.bound out on self.old progress.old self.new progress.new) }
     {
         match out {
             LineOut::Request(head, target) => {
-                self.begin_request(turn, alloc, site, now, head, target)
+                self.begin_request(turn, site, progress, head, target)
             }
-            LineOut::Refused(code) => going(self.refuse(turn, alloc, site, now, code), false),
-            LineOut::Waiting => self.hear_no_more(turn, site, now, anew),
+            LineOut::Refused(code) => going(self.refuse(turn, site, progress, code), false),
+            LineOut::Waiting => self.hear_no_more(turn, site, progress, anew),
             LineOut::Memory => Err(AllocError),
         }
     }
@@ -255,19 +257,19 @@ impl<R: ServiceContract> Connection<R> {
     /// The reply is taken: the rest of the body is dropped, and what follows it is read.
     pub(crate) fn next(
         &mut self,
-        turn: &mut Turn<R::Job>,
-        alloc: Global,
+        turn: &Turn,
         site: &R::Site,
-        now: Ms,
+        progress: &mut Progress<R::Job>,
     ) -> Result<bool, AllocError>
         ensures moves { let view = view_of (R.meaning site.now) (R.serving site.now) in IfOk result (λ on. Hears view on
-            (λ rest. Look (λ b s. next (service view) now.0 rest s.client)) self.old turn.old self.new turn.new) }
-        ensures costs { is_last (kept self.old.client).reply ≡ false → IfOk result (λ on. Settles R.left R.bound on self.old turn.old self.new turn.new) }
+            (λ rest. Look (λ b s. next (service view) turn.now.moment.0 rest s.client)) self.old progress.old self.new progress.new) }
+        ensures costs { is_last (kept self.old.client).reply ≡ false →
+            IfOk result (λ on. Settles R.left R.bound on self.old progress.old self.new progress.new) }
     {
         self.client.line.done();
         match self.client.line.fed(&[]) {
             LineOut::Memory => Err(AllocError),
-            out => self.heard(turn, alloc, site, now, true, out),
+            out => self.heard(turn, site, progress, true, out),
         }
     }
 }

@@ -1,6 +1,6 @@
 //! What is sent to the client, and offers of it.
 
-use crate::state::{Connection, Turn, both, put};
+use crate::state::{Connection, Progress, both, put};
 use connection_plan::ServiceContract;
 use resty_base::Bytes;
 use std::alloc::AllocError;
@@ -18,17 +18,17 @@ impl<R: ServiceContract> Connection<R> {
     /// Asks for an offer, where something is left, the client takes bytes, and no offer is queued or goes on.
     pub(crate) fn ask_for_offer(
         &mut self,
-        turn: &mut Turn<R::Job>,
         _site: &R::Site,
+        progress: &mut Progress<R::Job>,
     ) -> Result<(), AllocError>
         ensures moves { let view = view_of (R.meaning _site.now) (R.serving _site.now) in IfOk result (λ done. Goes view
-            (Send place.Client []) self.old turn.old self.new turn.new) }
+            (Send place.Client []) self.old progress.old self.new progress.new) }
         ensures waits { self.new.waits ≡ self.old.waits }
-        ensures costs { IfOk result (λ done. Spends R.left R.bound 1 self.old turn.old self.new turn.new) }
+        ensures costs { IfOk result (λ done. Spends R.left R.bound 1 self.old progress.old self.new progress.new) }
     {
-        if self.client.wants_offer() && !turn.is_offered {
-            turn.is_offered = true;
-            put(&mut turn.acts, Act::Offer(Place::Client))
+        if self.client.wants_offer() && !progress.is_offered {
+            progress.is_offered = true;
+            put(&mut progress.acts, Act::Offer(Place::Client))
         } else {
             Ok(())
         }
@@ -37,19 +37,19 @@ impl<R: ServiceContract> Connection<R> {
     /// Sends bytes to the client, where it is there.
     pub(crate) fn send(
         &mut self,
-        turn: &mut Turn<R::Job>,
         site: &R::Site,
+        progress: &mut Progress<R::Job>,
         bytes: &Bytes,
     ) -> Result<(), AllocError>
         ensures moves { let view = view_of (R.meaning site.now) (R.serving site.now) in IfOk result (λ done. Goes view
-            (send (service view) 0 bytes.now) self.old turn.old self.new turn.new) }
+            (send (service view) 0 bytes.now) self.old progress.old self.new progress.new) }
         ensures waits { self.new.waits ≡ self.old.waits }
-        ensures costs { IfOk result (λ done. Spends R.left R.bound (16 * length bytes.now + 1) self.old turn.old self.new turn.new) }
+        ensures costs { IfOk result (λ done. Spends R.left R.bound (16 * length bytes.now + 1) self.old progress.old self.new progress.new) }
     {
         if !self.client.is_open {
             return Ok(());
         }
         let queued = self.client.line.queue(bytes);
-        both(queued, self.ask_for_offer(turn, site))
+        both(queued, self.ask_for_offer(site, progress))
     }
 }

@@ -4,7 +4,8 @@ ghost use Rattle.std.specs.Prelude.{◌≡◌, ◌++◌, ◌∷◌, [], Bool, if
 
 use crate::client::Client;
 use crate::waits::Waits;
-use std::alloc::AllocError;
+use resty_base::Ms;
+use std::alloc::{AllocError, Global};
 use strand_contract::{Act, Acts};
 
 /// The strand of a client's connection, or of a timer job: `R` answers its requests, or is the job.
@@ -24,9 +25,16 @@ pub struct Connection<R> {
     pub(crate) is_taking: bool,
 }
 
-/// A turn that is taken.
+/// A turn that is taken: where its memory comes from, and its moment.
 #[derive(Drop)]
-pub struct Turn<J> {
+pub(crate) struct Turn {
+    pub(crate) alloc: Global,
+    pub(crate) moment: Ms,
+}
+
+/// How far a turn came.
+#[derive(Drop)]
+pub struct Progress<J> {
     /// Its acts so far.
     pub(crate) acts: Acts<J>,
     /// An offer of the client is queued, or goes on.
@@ -74,13 +82,13 @@ pub(crate) fn going(done: Result<(), AllocError>, on: bool) -> Result<bool, Allo
 
 /// The acts of a turn, where it came to its end.
 pub(crate) fn acts_of<J: Drop>(
-    turn: Turn<J>,
+    progress: Progress<J>,
     done: Result<(), AllocError>,
 ) -> Result<Acts<J>, AllocError>
-    ensures { IfOk result (λ acts. (acts.items ≡ turn.acts.items) × (done ≡ Ok tt)) }
+    ensures { IfOk result (λ acts. (acts.items ≡ progress.acts.items) × (done ≡ Ok tt)) }
 {
     match done {
-        Ok(()) => Ok(turn.acts),
+        Ok(()) => Ok(progress.acts),
         Err(error) => Err(error),
     }
 }

@@ -5,7 +5,7 @@ ghost use Rattle.connection_strand.specs.Following.{is_client};
 ghost use Rattle.connection_strand.specs.Shown.{takes_as};
 
 use crate::client::{Client, Stage, Timer};
-use crate::state::{Connection, Turn, acts_of, ended, going};
+use crate::state::{Connection, Progress, Turn, acts_of, ended, going};
 use crate::taking::take_out;
 use crate::waits::Waits;
 use connection_plan::ServiceContract;
@@ -81,25 +81,26 @@ impl<R: ServiceContract> Connection<R> {
     /// The first turn of a new connection: a head is waited for, or the job begins to run. It reports whether the turn goes on.
     fn take_first_turn(
         &mut self,
-        turn: &mut Turn<R::Job>,
-        alloc: Global,
+        turn: &Turn,
         site: &R::Site,
-        now: Ms,
+        progress: &mut Progress<R::Job>,
         start: Start<R::Job>,
     ) -> Result<bool, AllocError>
         requires connection { IsNew (R.serving site.now).default_times (is_client start) self.old }
-        requires acts { turn.old.acts.items ≡ [] }
-        requires offered { turn.old.is_offered ≡ false }
+        requires acts { progress.old.acts.items ≡ [] }
+        requires offered { progress.old.is_offered ≡ false }
         ensures { let view = view_of (R.meaning site.now) (R.serving site.now) in let plan = connection_plan (service view) in IfOk result (λ on.
             Went view on
-            (stepped plan now.0 (Did (Began now.0 start)) (unborn_state plan)) self.new turn.new Done) }
+            (stepped plan turn.now.moment.0 (Did (Began turn.now.moment.0 start)) (unborn_state plan)) self.new progress.new Done) }
     {
         match start {
-            Start::Client(_) => { going(self.begin_timer(turn, site, now, Timer::Header), true) }
+            Start::Client(_) => {
+                going(self.begin_timer(turn, site, progress, Timer::Header), true)
+            }
             Start::Job(_, premature, job) => {
-                let begun = R::begin_job(alloc, site, now, premature, job);
+                let begun = R::begin_job(turn.alloc, site, turn.moment, premature, job);
                 self.client.stage = Stage::Busy;
-                self.take_run(turn, site, now, begun)
+                self.take_run(turn, site, progress, begun)
             }
         }
     }
@@ -151,23 +152,22 @@ impl<R: ServiceContract> Connection<R> {
     /// Takes the turn that begins with the answer to its question: the run is given it, and what is there is settled.
     fn take_answer(
         &mut self,
-        turn: &mut Turn<R::Job>,
-        alloc: Global,
+        turn: &Turn,
         site: &R::Site,
-        now: Ms,
+        progress: &mut Progress<R::Job>,
         answer: Answer,
     ) -> Result<(), AllocError>
-        requires { let view = view_of (R.meaning site.now) (R.serving site.now) in MayTakeAnswer view now.0
-            answer self.old turn.old }
-        ensures moves { let view = view_of (R.meaning site.now) (R.serving site.now) in IfOk result (λ done. TakesAnswer view now.0
-            answer self.old turn.old self.new turn.new) }
-        ensures falls { IfOk result (λ done. Falls R.left R.bound self.old turn.old self.new turn.new) }
+        requires { let view = view_of (R.meaning site.now) (R.serving site.now) in MayTakeAnswer view turn.now.moment.0
+            answer self.old progress.old }
+        ensures moves { let view = view_of (R.meaning site.now) (R.serving site.now) in IfOk result (λ done. TakesAnswer view turn.now.moment.0
+            answer self.old progress.old self.new progress.new) }
+        ensures falls { IfOk result (λ done. Falls R.left R.bound self.old progress.old self.new progress.new) }
     {
         match self.take_in(&answer) {
             Ok(()) => {
                 self.keeping = None;
-                let went = self.answered(turn, alloc, site, now, answer);
-                self.settle_on(turn, alloc, site, now, went)
+                let went = self.answered(turn, site, progress, answer);
+                self.settle_on(turn, site, progress, went)
             }
             Err(error) => {
                 drop(answer);
@@ -277,12 +277,13 @@ impl<R: ServiceContract> StrandContract for Connection<R> {
             × (r.1.items ≡ (connection_behavior (service view)).acts (Did (Began now.0 start) ∷ []))) }
     {
         let mut connection = Connection::new(alloc, site, is_client(&start));
-        let mut turn = Turn {
+        let turn = Turn { alloc, moment: now };
+        let mut progress = Progress {
             acts: VecDeque::new(alloc),
             is_offered: false,
         };
-        let went = connection.take_first_turn(&mut turn, alloc, site, now, start);
-        paired(connection, acts_of(turn, ended(went)))
+        let went = connection.take_first_turn(&turn, site, &mut progress, start);
+        paired(connection, acts_of(progress, ended(went)))
     }
 
     fn given(
@@ -292,14 +293,15 @@ impl<R: ServiceContract> StrandContract for Connection<R> {
         now: Ms,
         seen: Seen,
     ) -> Result<Acts<R::Job>, AllocError> {
-        let mut turn = Turn {
+        let turn = Turn { alloc, moment: now };
+        let mut progress = Progress {
             acts: VecDeque::new(alloc),
             is_offered: self.is_offered(&seen),
         };
         self.keeping = None;
         self.is_taking = takes(&seen);
-        let done = self.see(&mut turn, alloc, site, now, seen);
-        acts_of(turn, done)
+        let done = self.see(&turn, site, &mut progress, seen);
+        acts_of(progress, done)
     }
 
     fn answer(
@@ -309,12 +311,13 @@ impl<R: ServiceContract> StrandContract for Connection<R> {
         now: Ms,
         answer: Answer,
     ) -> Result<Acts<R::Job>, AllocError> {
-        let mut turn = Turn {
+        let turn = Turn { alloc, moment: now };
+        let mut progress = Progress {
             acts: VecDeque::new(alloc),
             is_offered: self.is_still_offered(),
         };
-        let done = self.take_answer(&mut turn, alloc, site, now, answer);
-        acts_of(turn, done)
+        let done = self.take_answer(&turn, site, &mut progress, answer);
+        acts_of(progress, done)
     }
 
     fn queued(&self, site: &R::Site, place: Place) -> &[u8] {

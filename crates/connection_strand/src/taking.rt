@@ -3,7 +3,7 @@
 ghost use Rattle.std.specs.Prelude.{◌≡◌, ◌++◌, [], None};
 ghost use Rattle.connection_strand.specs.Acts.{is_question, kept_with, sockets_after, without_all};
 
-use crate::state::{Connection, Turn, going, put};
+use crate::state::{Connection, Progress, Turn, going, put};
 use connection_plan::ServiceContract;
 use resty_base::Ms;
 use run_contract::{RunAct, RunSeen, RunTurn};
@@ -48,10 +48,14 @@ impl<R: ServiceContract> Connection<R> {
     ghost use Rattle.connection_strand.specs.Turns.{TakesTurn, TakesPart, Tells, Gives};
 
     /// Makes an act of the run its own. It reports whether the connection's turn goes on: a question ends it.
-    fn take_act(&mut self, turn: &mut Turn<R::Job>, act: Act<R::Job>) -> Result<bool, AllocError>
+    fn take_act(
+        &mut self,
+        progress: &mut Progress<R::Job>,
+        act: Act<R::Job>,
+    ) -> Result<bool, AllocError>
         ensures goes_on { IfOk result (λ on. on ≡ not (is_question act)) }
-        ensures acts { IfOk result (λ on. turn.new.acts.items ≡ turn.old.acts.items ++ act ∷ []) }
-        ensures offered { turn.new.is_offered ≡ turn.old.is_offered }
+        ensures acts { IfOk result (λ on. progress.new.acts.items ≡ progress.old.acts.items ++ act ∷ []) }
+        ensures offered { progress.new.is_offered ≡ progress.old.is_offered }
         ensures sockets { self.new.sockets.items ≡ sockets_after act self.old.sockets.items }
         ensures keeping { self.new.keeping ≡ kept_with act self.old.keeping }
         ensures kept { self.new ≡ record self.old { sockets = self.new.sockets; keeping = self.new.keeping } }
@@ -62,25 +66,25 @@ impl<R: ServiceContract> Connection<R> {
             Act::Keep(number, _, _, _) => self.keeping = Some(*number),
             _ => {}
         }
-        going(put(&mut turn.acts, act), goes_on)
+        going(put(&mut progress.acts, act), goes_on)
     }
 
     /// Takes a part of the run's turn: an act, or a word, which is heard. It reports whether the connection's turn goes on.
     fn take_part(
         &mut self,
-        turn: &mut Turn<R::Job>,
+        turn: &Turn,
         site: &R::Site,
-        now: Ms,
+        progress: &mut Progress<R::Job>,
         part: RunAct<R::Job>,
     ) -> Result<bool, AllocError>
         ensures moves { let view = view_of (R.meaning site.now) (R.serving site.now) in IfOk result (λ on.
-            TakesPart view now.0 on part self.old turn.old self.new turn.new) }
-        ensures costs { IfOk result (λ on. Spends R.left R.bound unit self.old turn.old self.new turn.new) }
+            TakesPart view turn.now.moment.0 on part self.old progress.old self.new progress.new) }
+        ensures costs { IfOk result (λ on. Spends R.left R.bound unit self.old progress.old self.new progress.new) }
     {
         match part {
-            RunAct::Act(act) => self.take_act(turn, act),
+            RunAct::Act(act) => self.take_act(progress, act),
             RunAct::Say(word) => {
-                let heard = self.hear_word(turn, site, now, &word);
+                let heard = self.hear_word(turn, site, progress, &word);
                 drop(word);
                 going(heard, true)
             }
@@ -88,21 +92,21 @@ impl<R: ServiceContract> Connection<R> {
     }
 
     /// Takes the run's turn, part by part. It reports whether the connection's turn goes on: a question to the outside ends it.
-    fn take_turn(
+    fn take_parts(
         &mut self,
-        turn: &mut Turn<R::Job>,
+        turn: &Turn,
         site: &R::Site,
-        now: Ms,
+        progress: &mut Progress<R::Job>,
         next: &mut RunTurn<R::Job>,
     ) -> Result<bool, AllocError>
         ensures moves { let view = view_of (R.meaning site.now) (R.serving site.now) in IfOk result (λ on.
-            TakesTurn view now.0 on next.old self.old turn.old self.new turn.new) }
-        ensures costs { IfOk result (λ on. Spends R.left R.bound (unit * size_of next.old) self.old turn.old self.new turn.new) }
+            TakesTurn view turn.now.moment.0 on next.old self.old progress.old self.new progress.new) }
+        ensures costs { IfOk result (λ on. Spends R.left R.bound (unit * size_of next.old) self.old progress.old self.new progress.new) }
     {
         self.waits.asks = next.asks;
         let mut goes_on = true;
         while let Some(part) = next.does.pop_front() {
-            goes_on = self.take_part(turn, site, now, part)?;
+            goes_on = self.take_part(turn, site, progress, part)?;
         }
         Ok(goes_on)
     }
@@ -110,19 +114,19 @@ impl<R: ServiceContract> Connection<R> {
     /// Takes the turn that the run took, where it had the memory for it.
     fn take_next(
         &mut self,
-        turn: &mut Turn<R::Job>,
+        turn: &Turn,
         site: &R::Site,
-        now: Ms,
+        progress: &mut Progress<R::Job>,
         next: Result<RunTurn<R::Job>, AllocError>,
     ) -> Result<bool, AllocError>
         ensures { let view = view_of (R.meaning site.now) (R.serving site.now) in IfOk result (λ on. (taken : RunTurn R.Job) × (next ≡ Ok taken)
-            × TakesTurn view now.0 on taken self.old turn.old self.new turn.new
-            × Spends R.left R.bound (unit * size_of taken) self.old turn.old self.new turn.new) }
+            × TakesTurn view turn.now.moment.0 on taken self.old progress.old self.new progress.new
+            × Spends R.left R.bound (unit * size_of taken) self.old progress.old self.new progress.new) }
     {
         match next {
             Ok(next) => {
                 let mut next = next;
-                self.take_turn(turn, site, now, &mut next)
+                self.take_parts(turn, site, progress, &mut next)
             }
             Err(error) => Err(error),
         }
@@ -131,20 +135,20 @@ impl<R: ServiceContract> Connection<R> {
     /// Takes the run that begins, and its first turn, where there was the memory for them.
     pub(crate) fn take_run(
         &mut self,
-        turn: &mut Turn<R::Job>,
+        turn: &Turn,
         site: &R::Site,
-        now: Ms,
+        progress: &mut Progress<R::Job>,
         begun: Result<(R, RunTurn<R::Job>), AllocError>,
     ) -> Result<bool, AllocError>
         ensures { let view = view_of (R.meaning site.now) (R.serving site.now) in IfOk result (λ on.
             (run : R) × (first : RunTurn R.Job) × (begun ≡ Ok (run, first))
-            × TakesTurn view now.0 on first (record self.old { run = Some run }) turn.old self.new turn.new
-            × Spends R.left R.bound (unit * size_of first) (record self.old { run = Some run }) turn.old self.new turn.new) }
+            × TakesTurn view turn.now.moment.0 on first (record self.old { run = Some run }) progress.old self.new progress.new
+            × Spends R.left R.bound (unit * size_of first) (record self.old { run = Some run }) progress.old self.new progress.new) }
     {
         match begun {
             Ok((run, first)) => {
                 self.run = Some(run);
-                self.take_next(turn, site, now, Ok(first))
+                self.take_next(turn, site, progress, Ok(first))
             }
             Err(error) => Err(error),
         }
@@ -153,24 +157,23 @@ impl<R: ServiceContract> Connection<R> {
     /// Tells the run this, and takes its turn.
     pub(crate) fn tell(
         &mut self,
-        turn: &mut Turn<R::Job>,
-        alloc: Global,
+        turn: &Turn,
         site: &R::Site,
-        now: Ms,
+        progress: &mut Progress<R::Job>,
         seen: RunSeen,
     ) -> Result<bool, AllocError>
         requires { (run : R) → self.old.run ≡ Some run
-            → runs.MayBeTold (R.meaning site.now) now.0 seen run }
+            → runs.MayBeTold (R.meaning site.now) turn.now.moment.0 seen run }
         ensures moves { let view = view_of (R.meaning site.now) (R.serving site.now) in IfOk result (λ on.
-            Tells view now.0 seen on self.old turn.old self.new turn.new) }
+            Tells view turn.now.moment.0 seen on self.old progress.old self.new progress.new) }
         ensures costs { runs.is_own_turn seen ≡ true → (self.old.run ≡ None → ⊥) →
-            IfOk result (λ on. Pays R.left R.bound unit self.old turn.old self.new turn.new) }
+            IfOk result (λ on. Pays R.left R.bound unit self.old progress.old self.new progress.new) }
     {
         match &mut self.run {
             Some(run) => {
                 self.waits = self.waits.told(&seen);
-                let next = run.given(alloc, site, now, seen);
-                self.take_next(turn, site, now, next)
+                let next = run.given(turn.alloc, site, turn.moment, seen);
+                self.take_next(turn, site, progress, next)
             }
             None => {
                 drop(seen);
@@ -182,22 +185,21 @@ impl<R: ServiceContract> Connection<R> {
     /// Gives the run the answer to its question, and takes its turn.
     pub(crate) fn answered(
         &mut self,
-        turn: &mut Turn<R::Job>,
-        alloc: Global,
+        turn: &Turn,
         site: &R::Site,
-        now: Ms,
+        progress: &mut Progress<R::Job>,
         answer: Answer,
     ) -> Result<bool, AllocError>
         requires { (run : R) → self.old.run ≡ Some run
             → runs.MayBeAnswered (R.meaning site.now) answer run }
         ensures moves { let view = view_of (R.meaning site.now) (R.serving site.now) in IfOk result (λ on.
-            Gives view now.0 answer on self.old turn.old self.new turn.new) }
-        ensures costs { (self.old.run ≡ None → ⊥) → IfOk result (λ on. Pays R.left R.bound unit self.old turn.old self.new turn.new) }
+            Gives view turn.now.moment.0 answer on self.old progress.old self.new progress.new) }
+        ensures costs { (self.old.run ≡ None → ⊥) → IfOk result (λ on. Pays R.left R.bound unit self.old progress.old self.new progress.new) }
     {
         match &mut self.run {
             Some(run) => {
-                let next = run.answer(alloc, site, now, answer);
-                self.take_next(turn, site, now, next)
+                let next = run.answer(turn.alloc, site, turn.moment, answer);
+                self.take_next(turn, site, progress, next)
             }
             None => {
                 drop(answer);

@@ -1,11 +1,7 @@
-//! Tests of `engine`, and of what it holds: `sleepers` scripted strands and `runs` connections of scripted runs, served from a schedule to a history; `live`
-//! the live world; `holding` run queue, deadlines, seats and sockets; `dictionaries` dictionaries, with a table of the plain rules in `laws`.
+//! Tests of what the engine holds: `live` the live world; `holding` run queue, deadlines, seats and sockets; `dictionaries` dictionaries, with a table of the
+//! plain rules in `laws`.
 #![tactic(auto)]
 
-#[cfg(test)]
-mod asking;
-#[cfg(test)]
-mod cases;
 #[cfg(test)]
 mod dictionaries;
 #[cfg(test)]
@@ -13,10 +9,6 @@ mod holding;
 mod laws;
 #[cfg(test)]
 mod live;
-#[cfg(test)]
-mod runs;
-#[cfg(test)]
-mod sleepers;
 #[cfg(test)]
 mod words;
 

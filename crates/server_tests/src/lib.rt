@@ -14,6 +14,8 @@ mod rows;
 #[cfg(test)]
 mod schedule_texts;
 #[cfg(test)]
+mod scripted;
+#[cfg(test)]
 mod served;
 #[cfg(test)]
 mod world;

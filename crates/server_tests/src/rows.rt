@@ -36,6 +36,16 @@ pub(crate) fn put(all: &mut String, text: &str) {
     let _ = all.push_str(text);
 }
 
+/// Writes the lines of a case that begin with a mark, and those without one, but not those that begin with the other mark.
+pub(crate) fn put_lines(all: &mut String, case: &str, mark: &str, other: &str) {
+    for line in case.lines() {
+        if !line.starts_with(other) {
+            put(all, line.strip_prefix(mark).unwrap_or(line));
+            put(all, "\n");
+        }
+    }
+}
+
 /// A text with another in the place of a part, or as it was where there is no memory for it, so that the row fails.
 pub(crate) fn replaced(alloc: Global, text: String, part: &str, other: &str) -> String {
     match text.replace(alloc, part, other) {

@@ -3,7 +3,7 @@
 //! Which file shows what: `requests` requests in turn, kept and closed; `bodies` bodies that are dropped; `replies` the server's own and long ones; `routes`
 //! servers and locations; `ends` clients that end, break and are too many; `timers` each timeout; `cuttings` bytes cut anywhere; `handlers` Lua.
 use crate::program;
-use crate::rows::{expect, put, replaced};
+use crate::rows::{expect, put, put_lines, replaced};
 use std::alloc::Global;
 use std::process::Abort;
 
@@ -86,16 +86,6 @@ fn spelled(alloc: Global, text: &str) -> String {
         all = replaced(alloc, all, name, meaning);
     }
     all
-}
-
-/// Writes the lines of a case that begin with a mark, and those without one, but not those that begin with the other mark.
-fn put_lines(all: &mut String, case: &str, mark: &str, other: &str) {
-    for line in case.lines() {
-        if !line.starts_with(other) {
-            put(all, line.strip_prefix(mark).unwrap_or(line));
-            put(all, "\n");
-        }
-    }
 }
 
 /// Cases of the site that says `hi`.

@@ -17,7 +17,7 @@ tell_body-requires-clause-within g c =
     let old = c.args.self.now in
     let limited = record old { client = record old.client { limit = c.args.max } } in
     let now = record old { client = c.body_seen.new.self } in
-    answered-at v (met.meets site) (met.apart site) c.args.now.0 c.args.max old now c.args.turn.now _ (record { run = refl; waits = refl; sockets = refl; count = refl; keeping = refl; taking = refl }) c.in_ok-seen.ensures.taken c.in_ok-seen.ensures.seen c.requires.within
+    answered-at v (met.meets site) (met.apart site) c.args.turn.now.moment.0 c.args.max old now c.args.progress.now _ (record { run = refl; waits = refl; sockets = refl; count = refl; keeping = refl; taking = refl }) c.in_ok-seen.ensures.taken c.in_ok-seen.ensures.seen c.requires.within
 
 pub tell_body-requires-clause-body : goal.tell_body-requires-clause-body
 tell_body-requires-clause-body g c = hears-asking (view_of (g.R.RunContract.meaning c.args.site.now) (g.R.ServiceContract.serving c.args.site.now)) c.args.self.now c.args.max c.requires.asks
@@ -37,7 +37,7 @@ put_off_body-requires-clause-within g c =
     let old = c.args.self.now in
     let limited = record old { client = record old.client { limit = c.args.max } } in
     let now = record old { client = c.body_seen.new.self } in
-    answered-at v (met.meets site) (met.apart site) c.args.now.0 c.args.max old now c.args.turn.now _ (record { run = refl; waits = refl; sockets = refl; count = refl; keeping = refl; taking = refl }) c.in_ok-seen.ensures.taken c.in_ok-seen.ensures.seen c.requires.within
+    answered-at v (met.meets site) (met.apart site) c.args.turn.now.moment.0 c.args.max old now c.args.progress.now _ (record { run = refl; waits = refl; sockets = refl; count = refl; keeping = refl; taking = refl }) c.in_ok-seen.ensures.taken c.in_ok-seen.ensures.seen c.requires.within
 
 pub put_off_body-requires-clause-asks : goal.put_off_body-requires-clause-asks
 put_off_body-requires-clause-asks g c = ap is_some c.requires.asks
@@ -51,7 +51,7 @@ returns-in-Some-clause-moves g c =
     let limited = record old { client = record old.client { limit = c.args.max } } in
     let now = record old { client = c.body_seen.new.self } in
     ok-map c.tell_body.result _ _ (λ on goes. λ did m h. goes did m
-    (answers-body v (met.meets site) (met.apart site) c.args.now.0 c.args.max m did old now c.args.turn.now (Some c.in-Some.seen) (record { run = refl; waits = refl; sockets = refl; count = refl; keeping = refl; taking = refl })
+    (answers-body v (met.meets site) (met.apart site) c.args.turn.now.moment.0 c.args.max m did old now c.args.progress.now (Some c.in-Some.seen) (record { run = refl; waits = refl; sockets = refl; count = refl; keeping = refl; taking = refl })
     c.in_ok-seen.ensures.taken (sym c.in-Some.is ∙ c.in_ok-seen.ensures.seen) h)) c.tell_body.ensures.moves
 
 pub returns-in-None-clause-moves : goal.returns-in-None-clause-moves
@@ -63,7 +63,7 @@ returns-in-None-clause-moves g c =
     let limited = record old { client = record old.client { limit = c.args.max } } in
     let now = record old { client = c.body_seen.new.self } in
     ok-map c.put_off_body.result _ _ (λ on goes. λ did m h. goes did m
-    (answers-body v (met.meets site) (met.apart site) c.args.now.0 c.args.max m did old now c.args.turn.now None (record { run = refl; waits = refl; sockets = refl; count = refl; keeping = refl; taking = refl })
+    (answers-body v (met.meets site) (met.apart site) c.args.turn.now.moment.0 c.args.max m did old now c.args.progress.now None (record { run = refl; waits = refl; sockets = refl; count = refl; keeping = refl; taking = refl })
     c.in_ok-seen.ensures.taken (sym c.in-None.is ∙ c.in_ok-seen.ensures.seen) h)) c.put_off_body.ensures.moves
 
 pub returns-in-Some-clause-costs : goal.returns-in-Some-clause-costs
@@ -71,14 +71,14 @@ returns-in-Some-clause-costs g c =
     let old = c.args.self.now in
     let limited = record old { client = record old.client { limit = c.args.max } } in
     let now = record old { client = c.body_seen.new.self } in
-    ok-map c.tell_body.result _ _ (λ on paid. pays-settles g.R.RunContract.left g.R.ServiceContract.bound on old c.tell_body.new.self c.args.turn.now c.tell_body.new.turn
-    (pays-after g.R.RunContract.left g.R.ServiceContract.bound unit old now c.tell_body.new.self c.args.turn.now c.args.turn.now c.tell_body.new.turn
-    (limit-costs g.R.RunContract.left g.R.ServiceContract.bound c.args.max old now c.args.turn.now c.in_ok-seen.ensures.taken refl refl) paid)) c.tell_body.ensures.costs
+    ok-map c.tell_body.result _ _ (λ on paid. pays-settles g.R.RunContract.left g.R.ServiceContract.bound on old c.tell_body.new.self c.args.progress.now c.tell_body.new.progress
+    (pays-after g.R.RunContract.left g.R.ServiceContract.bound unit old now c.tell_body.new.self c.args.progress.now c.args.progress.now c.tell_body.new.progress
+    (limit-costs g.R.RunContract.left g.R.ServiceContract.bound c.args.max old now c.args.progress.now c.in_ok-seen.ensures.taken refl refl) paid)) c.tell_body.ensures.costs
 
 pub returns-in-None-clause-costs : goal.returns-in-None-clause-costs
 returns-in-None-clause-costs g c =
     let old = c.args.self.now in
     let limited = record old { client = record old.client { limit = c.args.max } } in
     let now = record old { client = c.body_seen.new.self } in
-    ok-map c.put_off_body.result _ _ (λ on settles. settles-after g.R.RunContract.left g.R.ServiceContract.bound on old now c.put_off_body.new.self c.args.turn.now c.args.turn.now c.put_off_body.new.turn
-    (limit-costs g.R.RunContract.left g.R.ServiceContract.bound c.args.max old now c.args.turn.now c.in_ok-seen.ensures.taken refl refl) settles) c.put_off_body.ensures.costs
+    ok-map c.put_off_body.result _ _ (λ on settles. settles-after g.R.RunContract.left g.R.ServiceContract.bound on old now c.put_off_body.new.self c.args.progress.now c.args.progress.now c.put_off_body.new.progress
+    (limit-costs g.R.RunContract.left g.R.ServiceContract.bound c.args.max old now c.args.progress.now c.in_ok-seen.ensures.taken refl refl) settles) c.put_off_body.ensures.costs

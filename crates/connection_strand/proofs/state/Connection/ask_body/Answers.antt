@@ -16,7 +16,7 @@ tell_body-requires-clause-within g c =
     let met = g.met.R.RunContract in
     let old = c.args.self.now in
     let now = record old { client = c.body_seen.new.self } in
-    asked-at v (met.meets site) (met.apart site) c.args.now.0 old now c.args.turn.now _ (record { run = refl; waits = refl; sockets = refl; count = refl; keeping = refl; taking = refl }) c.in_ok-seen.ensures.taken c.in_ok-seen.ensures.seen c.requires.within
+    asked-at v (met.meets site) (met.apart site) c.args.turn.now.moment.0 old now c.args.progress.now _ (record { run = refl; waits = refl; sockets = refl; count = refl; keeping = refl; taking = refl }) c.in_ok-seen.ensures.taken c.in_ok-seen.ensures.seen c.requires.within
 
 pub tell_body-requires-clause-body : goal.tell_body-requires-clause-body
 tell_body-requires-clause-body g c = hears-waiting (view_of (g.R.RunContract.meaning c.args.site.now) (g.R.ServiceContract.serving c.args.site.now)) c.args.self.now c.requires.body c.requires.unasked
@@ -32,7 +32,7 @@ returns-in-Some-clause-moves g c =
     let old = c.args.self.now in
     let now = record old { client = c.body_seen.new.self } in
     ok-map c.tell_body.result _ _ (λ on goes. λ did m h. goes did m
-    (asks-body v (met.meets site) (met.apart site) c.args.now.0 m did old now c.args.turn.now (Some c.in-Some.seen) (record { run = refl; waits = refl; sockets = refl; count = refl; keeping = refl; taking = refl })
+    (asks-body v (met.meets site) (met.apart site) c.args.turn.now.moment.0 m did old now c.args.progress.now (Some c.in-Some.seen) (record { run = refl; waits = refl; sockets = refl; count = refl; keeping = refl; taking = refl })
     c.in_ok-seen.ensures.taken (sym c.in-Some.is ∙ c.in_ok-seen.ensures.seen) h)) c.tell_body.ensures.moves
 
 pub returns-in-None-clause-moves : goal.returns-in-None-clause-moves
@@ -42,20 +42,20 @@ returns-in-None-clause-moves g c = λ did m h.
     let met = g.met.R.RunContract in
     let old = c.args.self.now in
     let now = record old { client = c.body_seen.new.self } in
-    done-came v stage.Busy did now c.args.turn.now
-    (asks-body v (met.meets site) (met.apart site) c.args.now.0 m did old now c.args.turn.now None (record { run = refl; waits = refl; sockets = refl; count = refl; keeping = refl; taking = refl })
+    done-came v stage.Busy did now c.args.progress.now
+    (asks-body v (met.meets site) (met.apart site) c.args.turn.now.moment.0 m did old now c.args.progress.now None (record { run = refl; waits = refl; sockets = refl; count = refl; keeping = refl; taking = refl })
     c.in_ok-seen.ensures.taken (sym c.in-None.is ∙ c.in_ok-seen.ensures.seen) h)
 
 pub returns-in-Some-clause-costs : goal.returns-in-Some-clause-costs
 returns-in-Some-clause-costs g c =
     let old = c.args.self.now in
     let now = record old { client = c.body_seen.new.self } in
-    ok-map c.tell_body.result _ _ (λ on paid. pays-settles g.R.RunContract.left g.R.ServiceContract.bound on old c.tell_body.new.self c.args.turn.now c.tell_body.new.turn
-    (pays-after g.R.RunContract.left g.R.ServiceContract.bound unit old now c.tell_body.new.self c.args.turn.now c.args.turn.now c.tell_body.new.turn
-    (asked-costs g.R.RunContract.left g.R.ServiceContract.bound old now c.args.turn.now c.in_ok-seen.ensures.taken refl refl) paid)) c.tell_body.ensures.costs
+    ok-map c.tell_body.result _ _ (λ on paid. pays-settles g.R.RunContract.left g.R.ServiceContract.bound on old c.tell_body.new.self c.args.progress.now c.tell_body.new.progress
+    (pays-after g.R.RunContract.left g.R.ServiceContract.bound unit old now c.tell_body.new.self c.args.progress.now c.args.progress.now c.tell_body.new.progress
+    (asked-costs g.R.RunContract.left g.R.ServiceContract.bound old now c.args.progress.now c.in_ok-seen.ensures.taken refl refl) paid)) c.tell_body.ensures.costs
 
 pub returns-in-None-clause-costs : goal.returns-in-None-clause-costs
 returns-in-None-clause-costs g c =
     let old = c.args.self.now in
     let now = record old { client = c.body_seen.new.self } in
-    settles-less g.R.RunContract.left g.R.ServiceContract.bound old now c.args.turn.now c.args.turn.now (asked-costs g.R.RunContract.left g.R.ServiceContract.bound old now c.args.turn.now c.in_ok-seen.ensures.taken refl refl)
+    settles-less g.R.RunContract.left g.R.ServiceContract.bound old now c.args.progress.now c.args.progress.now (asked-costs g.R.RunContract.left g.R.ServiceContract.bound old now c.args.progress.now c.in_ok-seen.ensures.taken refl refl)

@@ -21,12 +21,12 @@ hear_at-requires-clause-within g c =
     let site = c.args.site.now in
     let v = view_of (g.R.RunContract.meaning site) (g.R.ServiceContract.serving site) in
     let met = g.met.R.RunContract in
-    let now = c.args.now.0 in
+    let now = c.args.turn.now.moment.0 in
     let old = c.args.self.now.client in
     let new = c.fed-answer.new.self.came in
-    let x = from-here v (met.meets site) (met.apart site) c.requires.0 c.args.self.now c.args.turn.now c.requires.1
+    let x = from-here v (met.meets site) (met.apart site) c.requires.0 c.args.self.now c.args.progress.now c.requires.1
     (Look (λ b s. came_at (service v) now s.client.stage (fed s.client.came c.deref.result.now) s)) in
-    let t = comes v (met.meets site) (met.apart site) now c.deref.result.now c.fed-answer.result c.requires.0 x.0 c.args.self.now (record c.args.self.now { client = record old { line = c.fed-answer.new.self } }) c.args.turn.now (record { run = refl; waits = refl; sockets = refl; count = refl; keeping = refl; taking = refl })
+    let t = comes v (met.meets site) (met.apart site) now c.deref.result.now c.fed-answer.result c.requires.0 x.0 c.args.self.now (record c.args.self.now { client = record old { line = c.fed-answer.new.self } }) c.args.progress.now (record { run = refl; waits = refl; sockets = refl; count = refl; keeping = refl; taking = refl })
     (c.fed-answer.ensures.led c.in_default.not-Memory) (ap (λ (q : Sending). record (kept old) { came = new; sending = q }) c.fed-answer.ensures.sending) x.1 in
     (c.requires.0, (t.ledger, t.inner, t.within))
 
@@ -35,10 +35,10 @@ returns-in_default g c =
     let site = c.args.site.now in
     let v = view_of (g.R.RunContract.meaning site) (g.R.ServiceContract.serving site) in
     let met = g.met.R.RunContract in
-    let now = c.args.now.0 in
+    let now = c.args.turn.now.moment.0 in
     let old = c.args.self.now.client in
     let new = c.fed-answer.new.self.came in
     ok-map c.hear_at.result _ _ (λ done ends. λ st did h. ends st did
-    (comes v (met.meets site) (met.apart site) now c.deref.result.now c.fed-answer.result st did c.args.self.now (record c.args.self.now { client = record old { line = c.fed-answer.new.self } }) c.args.turn.now (record { run = refl; waits = refl; sockets = refl; count = refl; keeping = refl; taking = refl })
+    (comes v (met.meets site) (met.apart site) now c.deref.result.now c.fed-answer.result st did c.args.self.now (record c.args.self.now { client = record old { line = c.fed-answer.new.self } }) c.args.progress.now (record { run = refl; waits = refl; sockets = refl; count = refl; keeping = refl; taking = refl })
     (c.fed-answer.ensures.led c.in_default.not-Memory) (ap (λ (q : Sending). record (kept old) { came = new; sending = q }) c.fed-answer.ensures.sending)
-    (subst (λ bytes. To v (plain st) did c.args.self.now c.args.turn.now (Look (λ b s. came_at (service v) now s.client.stage (fed s.client.came bytes) s))) (sym c.deref.ensures) h))) c.hear_at.ensures
+    (subst (λ bytes. To v (plain st) did c.args.self.now c.args.progress.now (Look (λ b s. came_at (service v) now s.client.stage (fed s.client.came bytes) s))) (sym c.deref.ensures) h))) c.hear_at.ensures

@@ -4,6 +4,6 @@ use Rattle.connection_strand.proofs.state.Connection.hang_up_sockets.Given as go
 
 abbrev pub invariant-loop-socket : goal.invariant-loop-socket
 invariant-loop-socket g l = record {
-  acts : l.turn.acts.items ≡ l.fn.turn.acts.items ++ hang_ups (take l.socket-index l.self.sockets.items);
-  offered : l.turn.is_offered ≡ l.fn.turn.is_offered;
+  acts : l.progress.acts.items ≡ l.fn.progress.acts.items ++ hang_ups (take l.socket-index l.self.sockets.items);
+  offered : l.progress.is_offered ≡ l.fn.progress.is_offered;
 }

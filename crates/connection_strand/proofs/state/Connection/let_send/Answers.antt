@@ -11,7 +11,7 @@ returns-then-self-2-clause-moves g c =
     let v = view_of (g.R.RunContract.meaning site) (g.R.ServiceContract.serving site) in
     let met = g.met.R.RunContract in
     ok-map c.send-sent.result _ _ (λ done sends. λ e did m h. sends e did m (lets-reply v (met.meets site) (met.apart site) c.continue_reply-reply.result
-    e did c.args.self.now _ c.args.turn.now m c.continue_reply-reply.ensures (ap reply_of c.in-Unsent.is) c.if-self.false c.if-self-2.true (record { run = refl; waits = refl; sockets = refl; count = refl; keeping = refl; taking = refl }) refl h)) c.send-sent.ensures.moves
+    e did c.args.self.now _ c.args.progress.now m c.continue_reply-reply.ensures (ap reply_of c.in-Unsent.is) c.if-self.false c.if-self-2.true (record { run = refl; waits = refl; sockets = refl; count = refl; keeping = refl; taking = refl }) refl h)) c.send-sent.ensures.moves
 
 pub returns-else-self-2-clause-moves : goal.returns-else-self-2-clause-moves
 returns-else-self-2-clause-moves g c = λ e did m h.
@@ -19,7 +19,7 @@ returns-else-self-2-clause-moves g c = λ e did m h.
     let v = view_of (g.R.RunContract.meaning site) (g.R.ServiceContract.serving site) in
     let met = g.met.R.RunContract in
     lets v (met.meets site) (met.apart site)
-    e did c.args.self.now _ c.args.turn.now m false (ap reply_of c.in-Unsent.is) c.if-self.false c.if-self-2.false (record { run = refl; waits = refl; sockets = refl; count = refl; keeping = refl; taking = refl }) refl h
+    e did c.args.self.now _ c.args.progress.now m false (ap reply_of c.in-Unsent.is) c.if-self.false c.if-self-2.false (record { run = refl; waits = refl; sockets = refl; count = refl; keeping = refl; taking = refl }) refl h
 
 pub returns-then-self-clause-moves : goal.returns-then-self-clause-moves
 returns-then-self-clause-moves g c = λ e did m h.
@@ -27,7 +27,7 @@ returns-then-self-clause-moves g c = λ e did m h.
     let v = view_of (g.R.RunContract.meaning site) (g.R.ServiceContract.serving site) in
     let met = g.met.R.RunContract in
     lets-waited v (met.meets site) (met.apart site)
-    e did c.args.self.now c.args.turn.now m c.if-self.true h
+    e did c.args.self.now c.args.progress.now m c.if-self.true h
 
 pub returns-in-Begun-clause-moves : goal.returns-in-Begun-clause-moves
 returns-in-Begun-clause-moves g c = λ e did m h.
@@ -35,4 +35,4 @@ returns-in-Begun-clause-moves g c = λ e did m h.
     let v = view_of (g.R.RunContract.meaning site) (g.R.ServiceContract.serving site) in
     let met = g.met.R.RunContract in
     lets-begun v (met.meets site) (met.apart site)
-    e did c.args.self.now c.args.turn.now m (elim c.in-Begun.is [ inl x ↦ begun-is c.args.self.now.client.reply x | inr x ↦ whole-is c.args.self.now.client.reply x.0 x.1 ]) h
+    e did c.args.self.now c.args.progress.now m (elim c.in-Begun.is [ inl x ↦ begun-is c.args.self.now.client.reply x | inr x ↦ whole-is c.args.self.now.client.reply x.0 x.1 ]) h

@@ -22,7 +22,7 @@ returns-in_default-clause-moves g c =
     if-ok c.heard.result _ _ c.heard.ensures.moves (λ on hears st free did m h.
     hears (fed-answered (done old.line.came) new [] c.fed.result fed-is) st free did m
     (nexts v (met.meets site) (met.apart site)
-    c.args.now.0 c.fed.result st did c.args.self.now _ c.args.turn.now m (record { run = refl; waits = refl; sockets = refl; count = refl; keeping = refl; taking = refl }) fed-is
+    c.args.turn.now.moment.0 c.fed.result st did c.args.self.now _ c.args.progress.now m (record { run = refl; waits = refl; sockets = refl; count = refl; keeping = refl; taking = refl }) fed-is
     (ap (λ (q : Sending). record (kept old) { came = new; sending = q }) (c.fed.ensures.sending ∙ ap (λ (l : Line). l.sending) c.done.ensures)) h))
 
 pub returns-in_default-clause-costs : goal.returns-in_default-clause-costs
@@ -33,5 +33,5 @@ returns-in_default-clause-costs g c last =
     subst (λ (k : Came). IsFed k [] c.fed.result new) (ap (λ (l : Line). l.came) c.done.ensures)
     (c.fed.ensures.led c.in_default.not-Memory) in
     if-ok c.heard.result _ _ (c.heard.ensures.costs last) (λ on paid.
-    next-pays g.R.RunContract.left g.R.ServiceContract.bound c.fed.result on c.args.self.now (record c.args.self.now { client = record old { line = c.fed.new.self } }) c.heard.new.self c.args.turn.now c.heard.new.turn fed-is
+    next-pays g.R.RunContract.left g.R.ServiceContract.bound c.fed.result on c.args.self.now (record c.args.self.now { client = record old { line = c.fed.new.self } }) c.heard.new.self c.args.progress.now c.heard.new.progress fed-is
     (ap (λ (q : Sending). record (kept old) { came = new; sending = q }) (c.fed.ensures.sending ∙ ap (λ (l : Line). l.sending) c.done.ensures)) refl refl paid)

@@ -15,14 +15,14 @@ returns-clause-moves g c =
     let site = c.args.site.now in
     let v = view_of (g.R.RunContract.meaning site) (g.R.ServiceContract.serving site) in
     let met = g.met.R.RunContract in
-    let now = c.args.now.0 in
+    let now = c.args.turn.now.moment.0 in
     ok-map c.begin_timer.result _ _ (λ done goes. λ did h.
-    done-came v h.inner.client.stage did c.begin_timer.new.self c.begin_timer.new.turn
+    done-came v h.inner.client.stage did c.begin_timer.new.self c.begin_timer.new.progress
     (goes (plain h.inner.client.stage) did Done
-    (shown-later v (met.meets site) (met.apart site) now did c.args.self.now _ c.args.turn.now h (record { run = refl; waits = refl; sockets = refl; count = refl; keeping = refl; taking = refl }) refl))) c.begin_timer.ensures.moves
+    (shown-later v (met.meets site) (met.apart site) now did c.args.self.now _ c.args.progress.now h (record { run = refl; waits = refl; sockets = refl; count = refl; keeping = refl; taking = refl }) refl))) c.begin_timer.ensures.moves
 
 pub returns-clause-falls : goal.returns-clause-falls
 returns-clause-falls g c =
     let h = c.requires.1 in
-    ok-map c.begin_timer.result _ _ (λ done costs. later-falls g.R.RunContract.left g.R.ServiceContract.bound c.args.self.now c.begin_timer.new.self c.args.turn.now c.begin_timer.new.turn
+    ok-map c.begin_timer.result _ _ (λ done costs. later-falls g.R.RunContract.left g.R.ServiceContract.bound c.args.self.now c.begin_timer.new.self c.args.progress.now c.begin_timer.new.progress
     (ap (λ (k : Kept). k.off) h.client ∙ h.takes (ap (is_place place.Client) h.comes.begun)) costs) c.begin_timer.ensures.costs

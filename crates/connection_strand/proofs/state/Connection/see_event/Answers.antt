@@ -12,9 +12,9 @@ hear_end-requires-clause-within g c =
     let site = c.args.site.now in
     let v = view_of (g.R.RunContract.meaning site) (g.R.ServiceContract.serving site) in
     let met = g.met.R.RunContract in
-    let now = c.args.now.0 in
-    let h = (subst (λ (s : Seen). Shown v now s c.requires.0 c.args.self.now c.args.turn.now) (ap seen_of_event c.in-Ended.is) c.requires.1) in
-    let t = shown-ended v (met.meets site) (met.apart site) now c.requires.0 c.args.self.now c.args.turn.now h in
+    let now = c.args.turn.now.moment.0 in
+    let h = (subst (λ (s : Seen). Shown v now s c.requires.0 c.args.self.now c.args.progress.now) (ap seen_of_event c.in-Ended.is) c.requires.1) in
+    let t = shown-ended v (met.meets site) (met.apart site) now c.requires.0 c.args.self.now c.args.progress.now h in
     (h.inner.client.stage, (t.ledger, t.inner, t.within))
 
 pub hear_end-requires-clause-unasked : goal.hear_end-requires-clause-unasked
@@ -22,17 +22,17 @@ hear_end-requires-clause-unasked g c =
     let site = c.args.site.now in
     let v = view_of (g.R.RunContract.meaning site) (g.R.ServiceContract.serving site) in
     let met = g.met.R.RunContract in
-    is-unasked v (met.meets site) (met.apart site) c.args.now.0 (seen_of_event c.args.event) c.requires.0 c.args.self.now c.args.turn.now c.requires.1 c.args.self.now refl refl
+    is-unasked v (met.meets site) (met.apart site) c.args.turn.now.moment.0 (seen_of_event c.args.event) c.requires.0 c.args.self.now c.args.progress.now c.requires.1 c.args.self.now refl refl
 
 pub returns-in-Ended-clause-moves : goal.returns-in-Ended-clause-moves
 returns-in-Ended-clause-moves g c =
     let site = c.args.site.now in
     let v = view_of (g.R.RunContract.meaning site) (g.R.ServiceContract.serving site) in
     let met = g.met.R.RunContract in
-    let now = c.args.now.0 in
+    let now = c.args.turn.now.moment.0 in
     ok-map c.hear_end.result _ _ (λ done ends. λ did h.
-    let k = (subst (λ (s : Seen). Shown v now s did c.args.self.now c.args.turn.now) (ap seen_of_event c.in-Ended.is) h) in
-    ends k.inner.client.stage did (shown-ended v (met.meets site) (met.apart site) now did c.args.self.now c.args.turn.now k)) c.hear_end.ensures
+    let k = (subst (λ (s : Seen). Shown v now s did c.args.self.now c.args.progress.now) (ap seen_of_event c.in-Ended.is) h) in
+    ends k.inner.client.stage did (shown-ended v (met.meets site) (met.apart site) now did c.args.self.now c.args.progress.now k)) c.hear_end.ensures
 
 pub returns-in-Ended-clause-falls : goal.returns-in-Ended-clause-falls
 returns-in-Ended-clause-falls g c own = absurd (let e : false ≡ true = sym (ap is_own_turn (ap seen_of_event c.in-Ended.is)) ∙ own in cc)
@@ -42,16 +42,16 @@ lose-requires-clause-unasked g c =
     let site = c.args.site.now in
     let v = view_of (g.R.RunContract.meaning site) (g.R.ServiceContract.serving site) in
     let met = g.met.R.RunContract in
-    is-unasked v (met.meets site) (met.apart site) c.args.now.0 (seen_of_event c.args.event) c.requires.0 c.args.self.now c.args.turn.now c.requires.1 c.args.self.now refl refl
+    is-unasked v (met.meets site) (met.apart site) c.args.turn.now.moment.0 (seen_of_event c.args.event) c.requires.0 c.args.self.now c.args.progress.now c.requires.1 c.args.self.now refl refl
 
 pub lose-requires-clause-within : goal.lose-requires-clause-within
 lose-requires-clause-within g c =
     let site = c.args.site.now in
     let v = view_of (g.R.RunContract.meaning site) (g.R.ServiceContract.serving site) in
     let met = g.met.R.RunContract in
-    let now = c.args.now.0 in
-    let h = (subst (λ (s : Seen). Shown v now s c.requires.0 c.args.self.now c.args.turn.now) (ap seen_of_event c.in-Broken.is) c.requires.1) in
-    let t = shown-broken v (met.meets site) (met.apart site) now c.requires.0 c.args.self.now c.args.turn.now h in
+    let now = c.args.turn.now.moment.0 in
+    let h = (subst (λ (s : Seen). Shown v now s c.requires.0 c.args.self.now c.args.progress.now) (ap seen_of_event c.in-Broken.is) c.requires.1) in
+    let t = shown-broken v (met.meets site) (met.apart site) now c.requires.0 c.args.self.now c.args.progress.now h in
     (h.inner.client.stage, (t.ledger, t.inner, t.within))
 
 pub returns-in-Broken-clause-moves : goal.returns-in-Broken-clause-moves
@@ -59,10 +59,10 @@ returns-in-Broken-clause-moves g c =
     let site = c.args.site.now in
     let v = view_of (g.R.RunContract.meaning site) (g.R.ServiceContract.serving site) in
     let met = g.met.R.RunContract in
-    let now = c.args.now.0 in
+    let now = c.args.turn.now.moment.0 in
     ok-map c.lose.result _ _ (λ done ends. λ did h.
-    let k = (subst (λ (s : Seen). Shown v now s did c.args.self.now c.args.turn.now) (ap seen_of_event c.in-Broken.is) h) in
-    ends k.inner.client.stage did (shown-broken v (met.meets site) (met.apart site) now did c.args.self.now c.args.turn.now k)) c.lose.ensures.moves
+    let k = (subst (λ (s : Seen). Shown v now s did c.args.self.now c.args.progress.now) (ap seen_of_event c.in-Broken.is) h) in
+    ends k.inner.client.stage did (shown-broken v (met.meets site) (met.apart site) now did c.args.self.now c.args.progress.now k)) c.lose.ensures.moves
 
 pub returns-in-Broken-clause-falls : goal.returns-in-Broken-clause-falls
 returns-in-Broken-clause-falls g c own = absurd (let e : false ≡ true = sym (ap is_own_turn (ap seen_of_event c.in-Broken.is)) ∙ own in cc)
@@ -72,16 +72,16 @@ due-requires g c =
     let site = c.args.site.now in
     let v = view_of (g.R.RunContract.meaning site) (g.R.ServiceContract.serving site) in
     let met = g.met.R.RunContract in
-    let now = c.args.now.0 in
-    (c.requires.0, (subst (λ (s : Seen). Shown v now s c.requires.0 c.args.self.now c.args.turn.now) (ap seen_of_event c.in-Due.is) c.requires.1))
+    let now = c.args.turn.now.moment.0 in
+    (c.requires.0, (subst (λ (s : Seen). Shown v now s c.requires.0 c.args.self.now c.args.progress.now) (ap seen_of_event c.in-Due.is) c.requires.1))
 
 pub returns-in-Due-clause-moves : goal.returns-in-Due-clause-moves
 returns-in-Due-clause-moves g c =
     let site = c.args.site.now in
     let v = view_of (g.R.RunContract.meaning site) (g.R.ServiceContract.serving site) in
     let met = g.met.R.RunContract in
-    let now = c.args.now.0 in
-    ok-map c.due.result _ _ (λ done goes. λ did h. goes did (subst (λ (s : Seen). Shown v now s did c.args.self.now c.args.turn.now) (ap seen_of_event c.in-Due.is) h)) c.due.ensures.moves
+    let now = c.args.turn.now.moment.0 in
+    ok-map c.due.result _ _ (λ done goes. λ did h. goes did (subst (λ (s : Seen). Shown v now s did c.args.self.now c.args.progress.now) (ap seen_of_event c.in-Due.is) h)) c.due.ensures.moves
 
 pub returns-in-Due-clause-falls : goal.returns-in-Due-clause-falls
 returns-in-Due-clause-falls g c own = c.due.ensures.falls
@@ -91,16 +91,16 @@ go_on-requires g c =
     let site = c.args.site.now in
     let v = view_of (g.R.RunContract.meaning site) (g.R.ServiceContract.serving site) in
     let met = g.met.R.RunContract in
-    let now = c.args.now.0 in
-    (c.requires.0, shown-run v (met.meets site) (met.apart site) now c.in-Run.thread c.requires.0 c.args.self.now c.args.turn.now (subst (λ (s : Seen). Shown v now s c.requires.0 c.args.self.now c.args.turn.now) (ap seen_of_event c.in-Run.is) c.requires.1))
+    let now = c.args.turn.now.moment.0 in
+    (c.requires.0, shown-run v (met.meets site) (met.apart site) now c.in-Run.thread c.requires.0 c.args.self.now c.args.progress.now (subst (λ (s : Seen). Shown v now s c.requires.0 c.args.self.now c.args.progress.now) (ap seen_of_event c.in-Run.is) c.requires.1))
 
 pub returns-in-Run-clause-moves : goal.returns-in-Run-clause-moves
 returns-in-Run-clause-moves g c =
     let site = c.args.site.now in
     let v = view_of (g.R.RunContract.meaning site) (g.R.ServiceContract.serving site) in
     let met = g.met.R.RunContract in
-    let now = c.args.now.0 in
-    ok-map c.go_on.result _ _ (λ done goes. λ did h. goes did (shown-run v (met.meets site) (met.apart site) now c.in-Run.thread did c.args.self.now c.args.turn.now (subst (λ (s : Seen). Shown v now s did c.args.self.now c.args.turn.now) (ap seen_of_event c.in-Run.is) h))) c.go_on.ensures.moves
+    let now = c.args.turn.now.moment.0 in
+    ok-map c.go_on.result _ _ (λ done goes. λ did h. goes did (shown-run v (met.meets site) (met.apart site) now c.in-Run.thread did c.args.self.now c.args.progress.now (subst (λ (s : Seen). Shown v now s did c.args.self.now c.args.progress.now) (ap seen_of_event c.in-Run.is) h))) c.go_on.ensures.moves
 
 pub returns-in-Run-clause-falls : goal.returns-in-Run-clause-falls
 returns-in-Run-clause-falls g c own = c.go_on.ensures.falls refl refl
@@ -110,10 +110,10 @@ returns-in-Stop-clause-moves g c =
     let site = c.args.site.now in
     let v = view_of (g.R.RunContract.meaning site) (g.R.ServiceContract.serving site) in
     let met = g.met.R.RunContract in
-    let now = c.args.now.0 in
+    let now = c.args.turn.now.moment.0 in
     ok-map c.finish.result _ _ (λ done ends. λ did h.
-    let k = (subst (λ (s : Seen). Shown v now s did c.args.self.now c.args.turn.now) (ap seen_of_event c.in-Stop.is) h) in
-    ends k.inner.client.stage did (shown-stop v (met.meets site) (met.apart site) now did c.args.self.now c.args.turn.now k)) c.finish.ensures.moves
+    let k = (subst (λ (s : Seen). Shown v now s did c.args.self.now c.args.progress.now) (ap seen_of_event c.in-Stop.is) h) in
+    ends k.inner.client.stage did (shown-stop v (met.meets site) (met.apart site) now did c.args.self.now c.args.progress.now k)) c.finish.ensures.moves
 
 pub returns-in-Stop-clause-falls : goal.returns-in-Stop-clause-falls
 returns-in-Stop-clause-falls g c own = c.finish.ensures.falls

@@ -12,8 +12,8 @@ returns-in-Ready-clause-moves g c =
     let site = c.args.site.now in
     let v = view_of (g.R.RunContract.meaning site) (g.R.ServiceContract.serving site) in
     let met = g.met.R.RunContract in
-    let now = c.args.now.0 in
-    ok-map c.resume.result _ _ (λ done goes. λ did h. goes did (subst (λ (s : Seen). Shown v now s did c.args.self.now c.args.turn.now) (ap seen_of_taking c.in-Ready.is) h)) c.resume.ensures
+    let now = c.args.turn.now.moment.0 in
+    ok-map c.resume.result _ _ (λ done goes. λ did h. goes did (subst (λ (s : Seen). Shown v now s did c.args.self.now c.args.progress.now) (ap seen_of_taking c.in-Ready.is) h)) c.resume.ensures
 
 pub returns-in-Ready-clause-falls : goal.returns-in-Ready-clause-falls
 returns-in-Ready-clause-falls g c own = absurd (let e : false ≡ true = sym (ap is_own_turn (ap seen_of_taking c.in-Ready.is)) ∙ own in cc)
@@ -23,16 +23,16 @@ took-requires g c =
     let site = c.args.site.now in
     let v = view_of (g.R.RunContract.meaning site) (g.R.ServiceContract.serving site) in
     let met = g.met.R.RunContract in
-    let now = c.args.now.0 in
-    (c.requires.0, (subst (λ (s : Seen). Shown v now s c.requires.0 c.args.self.now c.args.turn.now) (ap seen_of_taking c.in-Took.is) c.requires.1))
+    let now = c.args.turn.now.moment.0 in
+    (c.requires.0, (subst (λ (s : Seen). Shown v now s c.requires.0 c.args.self.now c.args.progress.now) (ap seen_of_taking c.in-Took.is) c.requires.1))
 
 pub returns-in-Took-clause-moves : goal.returns-in-Took-clause-moves
 returns-in-Took-clause-moves g c =
     let site = c.args.site.now in
     let v = view_of (g.R.RunContract.meaning site) (g.R.ServiceContract.serving site) in
     let met = g.met.R.RunContract in
-    let now = c.args.now.0 in
-    ok-map c.took.result _ _ (λ done goes. λ did h. goes did (subst (λ (s : Seen). Shown v now s did c.args.self.now c.args.turn.now) (ap seen_of_taking c.in-Took.is) h)) c.took.ensures.moves
+    let now = c.args.turn.now.moment.0 in
+    ok-map c.took.result _ _ (λ done goes. λ did h. goes did (subst (λ (s : Seen). Shown v now s did c.args.self.now c.args.progress.now) (ap seen_of_taking c.in-Took.is) h)) c.took.ensures.moves
 
 pub returns-in-Took-clause-falls : goal.returns-in-Took-clause-falls
 returns-in-Took-clause-falls g c own = c.took.ensures.falls
@@ -42,16 +42,16 @@ put_off-requires g c =
     let site = c.args.site.now in
     let v = view_of (g.R.RunContract.meaning site) (g.R.ServiceContract.serving site) in
     let met = g.met.R.RunContract in
-    let now = c.args.now.0 in
-    (c.requires.0, (subst (λ (s : Seen). Shown v now s c.requires.0 c.args.self.now c.args.turn.now) (ap seen_of_taking c.in-Later.is) c.requires.1))
+    let now = c.args.turn.now.moment.0 in
+    (c.requires.0, (subst (λ (s : Seen). Shown v now s c.requires.0 c.args.self.now c.args.progress.now) (ap seen_of_taking c.in-Later.is) c.requires.1))
 
 pub returns-in-Later-clause-moves : goal.returns-in-Later-clause-moves
 returns-in-Later-clause-moves g c =
     let site = c.args.site.now in
     let v = view_of (g.R.RunContract.meaning site) (g.R.ServiceContract.serving site) in
     let met = g.met.R.RunContract in
-    let now = c.args.now.0 in
-    ok-map c.put_off.result _ _ (λ done goes. λ did h. goes did (subst (λ (s : Seen). Shown v now s did c.args.self.now c.args.turn.now) (ap seen_of_taking c.in-Later.is) h)) c.put_off.ensures.moves
+    let now = c.args.turn.now.moment.0 in
+    ok-map c.put_off.result _ _ (λ done goes. λ did h. goes did (subst (λ (s : Seen). Shown v now s did c.args.self.now c.args.progress.now) (ap seen_of_taking c.in-Later.is) h)) c.put_off.ensures.moves
 
 pub returns-in-Later-clause-falls : goal.returns-in-Later-clause-falls
 returns-in-Later-clause-falls g c own = c.put_off.ensures.falls
@@ -61,16 +61,16 @@ lose-requires-clause-unasked g c =
     let site = c.args.site.now in
     let v = view_of (g.R.RunContract.meaning site) (g.R.ServiceContract.serving site) in
     let met = g.met.R.RunContract in
-    is-unasked v (met.meets site) (met.apart site) c.args.now.0 (seen_of_taking c.args.taking) c.requires.0 c.args.self.now c.args.turn.now c.requires.1 c.args.self.now refl refl
+    is-unasked v (met.meets site) (met.apart site) c.args.turn.now.moment.0 (seen_of_taking c.args.taking) c.requires.0 c.args.self.now c.args.progress.now c.requires.1 c.args.self.now refl refl
 
 pub lose-requires-clause-within : goal.lose-requires-clause-within
 lose-requires-clause-within g c =
     let site = c.args.site.now in
     let v = view_of (g.R.RunContract.meaning site) (g.R.ServiceContract.serving site) in
     let met = g.met.R.RunContract in
-    let now = c.args.now.0 in
-    let h = (subst (λ (s : Seen). Shown v now s c.requires.0 c.args.self.now c.args.turn.now) (ap seen_of_taking c.in-Lost.is) c.requires.1) in
-    let t = shown-lost v (met.meets site) (met.apart site) now c.requires.0 c.args.self.now c.args.turn.now h in
+    let now = c.args.turn.now.moment.0 in
+    let h = (subst (λ (s : Seen). Shown v now s c.requires.0 c.args.self.now c.args.progress.now) (ap seen_of_taking c.in-Lost.is) c.requires.1) in
+    let t = shown-lost v (met.meets site) (met.apart site) now c.requires.0 c.args.self.now c.args.progress.now h in
     (h.inner.client.stage, (t.ledger, t.inner, t.within))
 
 pub returns-in-Lost-clause-moves : goal.returns-in-Lost-clause-moves
@@ -78,7 +78,7 @@ returns-in-Lost-clause-moves g c =
     let site = c.args.site.now in
     let v = view_of (g.R.RunContract.meaning site) (g.R.ServiceContract.serving site) in
     let met = g.met.R.RunContract in
-    let now = c.args.now.0 in
+    let now = c.args.turn.now.moment.0 in
     ok-map c.lose.result _ _ (λ done ends. λ did h.
-    let k = (subst (λ (s : Seen). Shown v now s did c.args.self.now c.args.turn.now) (ap seen_of_taking c.in-Lost.is) h) in
-    ends k.inner.client.stage did (shown-lost v (met.meets site) (met.apart site) now did c.args.self.now c.args.turn.now k)) c.lose.ensures.moves
+    let k = (subst (λ (s : Seen). Shown v now s did c.args.self.now c.args.progress.now) (ap seen_of_taking c.in-Lost.is) h) in
+    ends k.inner.client.stage did (shown-lost v (met.meets site) (met.apart site) now did c.args.self.now c.args.progress.now k)) c.lose.ensures.moves

@@ -11,29 +11,29 @@ pub loop-goes_on-init : goal.loop-goes_on-init
 loop-goes_on-init g c =
     let site = c.args.site.now in
     let v = view_of (g.R.RunContract.meaning site) (g.R.ServiceContract.serving site) in
-    (begins v c.args.now.0 c.args.self.now c.args.turn.now c.requires, spends-nothing g.R.RunContract.left g.R.ServiceContract.bound c.args.self.now c.args.turn.now)
+    (begins v c.args.turn.now.moment.0 c.args.self.now c.args.progress.now c.requires, spends-nothing g.R.RunContract.left g.R.ServiceContract.bound c.args.self.now c.args.progress.now)
 
 pub loop-goes_on-preserved : goal.loop-goes_on-preserved
 loop-goes_on-preserved g c =
     let site = c.args.site.now in
     let v = view_of (g.R.RunContract.meaning site) (g.R.ServiceContract.serving site) in (
-      goes-on v c.args.now.0 c.in_ok-goes_on.goes_on c.args.self.now c.args.turn.now c.loop-goes_on.self c.loop-goes_on.turn c.settle_once.new.self c.settle_once.new.turn
-          (subst (λ o. IsSettling v c.args.now.0 o c.args.self.now c.args.turn.now c.loop-goes_on.self c.loop-goes_on.turn) c.loop-goes_on-test.true c.loop-goes_on.invariant.0) c.in_ok-goes_on.ensures.moves,
-      spends-on g.R.RunContract.left g.R.ServiceContract.bound c.in_ok-goes_on.goes_on c.args.self.now c.args.turn.now c.loop-goes_on.self c.loop-goes_on.turn c.settle_once.new.self c.settle_once.new.turn
-          (subst (λ o. Spent g.R.RunContract.left g.R.ServiceContract.bound o c.args.self.now c.args.turn.now c.loop-goes_on.self c.loop-goes_on.turn) c.loop-goes_on-test.true c.loop-goes_on.invariant.1) c.in_ok-goes_on.ensures.costs,
+      goes-on v c.args.turn.now.moment.0 c.in_ok-goes_on.goes_on c.args.self.now c.args.progress.now c.loop-goes_on.self c.loop-goes_on.progress c.settle_once.new.self c.settle_once.new.progress
+          (subst (λ o. IsSettling v c.args.turn.now.moment.0 o c.args.self.now c.args.progress.now c.loop-goes_on.self c.loop-goes_on.progress) c.loop-goes_on-test.true c.loop-goes_on.invariant.0) c.in_ok-goes_on.ensures.moves,
+      spends-on g.R.RunContract.left g.R.ServiceContract.bound c.in_ok-goes_on.goes_on c.args.self.now c.args.progress.now c.loop-goes_on.self c.loop-goes_on.progress c.settle_once.new.self c.settle_once.new.progress
+          (subst (λ o. Spent g.R.RunContract.left g.R.ServiceContract.bound o c.args.self.now c.args.progress.now c.loop-goes_on.self c.loop-goes_on.progress) c.loop-goes_on-test.true c.loop-goes_on.invariant.1) c.in_ok-goes_on.ensures.costs,
     )
 
 pub loop-goes_on-smaller : goal.loop-goes_on-smaller
 loop-goes_on-smaller g c =
-    subst (λ o. rounds g.R.RunContract.left g.R.ServiceContract.bound c.in_ok-goes_on.goes_on c.settle_once.new.self c.settle_once.new.turn < rounds g.R.RunContract.left g.R.ServiceContract.bound o c.loop-goes_on.self c.loop-goes_on.turn) (sym c.loop-goes_on-test.true)
-    (fewer g.R.RunContract.left g.R.ServiceContract.bound c.in_ok-goes_on.goes_on c.loop-goes_on.self c.loop-goes_on.turn c.settle_once.new.self c.settle_once.new.turn c.in_ok-goes_on.ensures.costs)
+    subst (λ o. rounds g.R.RunContract.left g.R.ServiceContract.bound c.in_ok-goes_on.goes_on c.settle_once.new.self c.settle_once.new.progress < rounds g.R.RunContract.left g.R.ServiceContract.bound o c.loop-goes_on.self c.loop-goes_on.progress) (sym c.loop-goes_on-test.true)
+    (fewer g.R.RunContract.left g.R.ServiceContract.bound c.in_ok-goes_on.goes_on c.loop-goes_on.self c.loop-goes_on.progress c.settle_once.new.self c.settle_once.new.progress c.in_ok-goes_on.ensures.costs)
 
 pub returns-clause-moves : goal.returns-clause-moves
 returns-clause-moves g c = λ st did h.
     let site = c.args.site.now in
     let v = view_of (g.R.RunContract.meaning site) (g.R.ServiceContract.serving site) in
-    settled v c.args.now.0 c.args.self.now c.args.turn.now c.loop-goes_on.self c.loop-goes_on.turn st did
-    (subst (λ o. IsSettling v c.args.now.0 o c.args.self.now c.args.turn.now c.loop-goes_on.self c.loop-goes_on.turn) c.loop-goes_on-test.false c.loop-goes_on.invariant.0) h
+    settled v c.args.turn.now.moment.0 c.args.self.now c.args.progress.now c.loop-goes_on.self c.loop-goes_on.progress st did
+    (subst (λ o. IsSettling v c.args.turn.now.moment.0 o c.args.self.now c.args.progress.now c.loop-goes_on.self c.loop-goes_on.progress) c.loop-goes_on-test.false c.loop-goes_on.invariant.0) h
 
 pub returns-clause-costs : goal.returns-clause-costs
-returns-clause-costs g c = subst (λ o. Spent g.R.RunContract.left g.R.ServiceContract.bound o c.args.self.now c.args.turn.now c.loop-goes_on.self c.loop-goes_on.turn) c.loop-goes_on-test.false c.loop-goes_on.invariant.1
+returns-clause-costs g c = subst (λ o. Spent g.R.RunContract.left g.R.ServiceContract.bound o c.args.self.now c.args.progress.now c.loop-goes_on.self c.loop-goes_on.progress) c.loop-goes_on-test.false c.loop-goes_on.invariant.1

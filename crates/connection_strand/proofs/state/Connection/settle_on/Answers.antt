@@ -17,14 +17,14 @@ returns-then-goes_on-clause-moves g c =
       c.in-Ok.goes_on,
       c.in-Ok.is,
       λ did w.
-          let t = subst (λ (on : Bool). Went v on did c.args.self.now c.args.turn.now (settle (service v) c.args.now.0)) c.if-goes_on.true w in ends t.0 did t.1,
+          let t = subst (λ (on : Bool). Went v on did c.args.self.now c.args.progress.now (settle (service v) c.args.turn.now.moment.0)) c.if-goes_on.true w in ends t.0 did t.1,
     )) c.settle_all.ensures.moves
 
 pub returns-else-goes_on-clause-moves : goal.returns-else-goes_on-clause-moves
 returns-else-goes_on-clause-moves g c =
     let site = c.args.site.now in
     let v = view_of (g.R.RunContract.meaning site) (g.R.ServiceContract.serving site) in
-    (c.in-Ok.goes_on, c.in-Ok.is, λ did w. subst (λ (on : Bool). Went v on did c.args.self.now c.args.turn.now (settle (service v) c.args.now.0)) c.if-goes_on.false w)
+    (c.in-Ok.goes_on, c.in-Ok.is, λ did w. subst (λ (on : Bool). Went v on did c.args.self.now c.args.progress.now (settle (service v) c.args.turn.now.moment.0)) c.if-goes_on.false w)
 
 pub returns-else-goes_on-clause-costs : goal.returns-else-goes_on-clause-costs
-returns-else-goes_on-clause-costs g c = settles-nothing g.R.RunContract.left g.R.ServiceContract.bound c.args.self.now c.args.turn.now
+returns-else-goes_on-clause-costs g c = settles-nothing g.R.RunContract.left g.R.ServiceContract.bound c.args.self.now c.args.progress.now

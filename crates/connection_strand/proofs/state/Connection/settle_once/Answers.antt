@@ -19,10 +19,10 @@ answer_body-requires-clause-within g c =
     let site = c.args.site.now in
     let v = view_of (g.R.RunContract.meaning site) (g.R.ServiceContract.serving site) in
     let met = g.met.R.RunContract in
-    let now = c.args.now.0 in
+    let now = c.args.turn.now.moment.0 in
     let self = c.args.self.now in
-    let turn = c.args.turn.now in
-    is-busy v (met.meets site) (met.apart site) self turn c.requires.0 c.requires.1 c.in-Busy.is
+    let progress = c.args.progress.now in
+    is-busy v (met.meets site) (met.apart site) self progress c.requires.0 c.requires.1 c.in-Busy.is
 
 pub answer_body-requires-clause-asks : goal.answer_body-requires-clause-asks
 answer_body-requires-clause-asks g c = c.in-Some.is ∙ ap (λ (q : Asking). Some q) c.in-Body.is
@@ -32,59 +32,59 @@ returns-in-Body-clause-moves g c =
     let site = c.args.site.now in
     let v = view_of (g.R.RunContract.meaning site) (g.R.ServiceContract.serving site) in
     let met = g.met.R.RunContract in
-    let now = c.args.now.0 in
+    let now = c.args.turn.now.moment.0 in
     let self = c.args.self.now in
-    let turn = c.args.turn.now in
+    let progress = c.args.progress.now in
     ok-map c.answer_body.result _ _ (λ on goes. λ st did h. goes did (settle (service v) now)
-    (busy-as v (met.meets site) (met.apart site) now (settle (service v) now) did self turn (Some (asking.Body c.in-Body.max)) (c.in-Some.is ∙ ap (λ (q : Asking). Some q) c.in-Body.is)
-    (settles-busy v (met.meets site) (met.apart site) now did self turn (busy-at v (met.meets site) (met.apart site) st did self turn (settle (service v) now) c.in-Busy.is h)))) c.answer_body.ensures.moves
+    (busy-as v (met.meets site) (met.apart site) now (settle (service v) now) did self progress (Some (asking.Body c.in-Body.max)) (c.in-Some.is ∙ ap (λ (q : Asking). Some q) c.in-Body.is)
+    (settles-busy v (met.meets site) (met.apart site) now did self progress (busy-at v (met.meets site) (met.apart site) st did self progress (settle (service v) now) c.in-Busy.is h)))) c.answer_body.ensures.moves
 
 pub tell-requires : goal.tell-requires
 tell-requires g c =
     let site = c.args.site.now in
     let v = view_of (g.R.RunContract.meaning site) (g.R.ServiceContract.serving site) in
     let met = g.met.R.RunContract in
-    let now = c.args.now.0 in
+    let now = c.args.turn.now.moment.0 in
     let self = c.args.self.now in
-    let turn = c.args.turn.now in
-    may-tell v now c.taken_seen-seen.result self turn (may-be-taken v now self c.taken_seen-seen.result c.taken_seen-seen.ensures (c.in-Some.is ∙ ap (λ (q : Asking). Some q) c.in-AllTaken.is))
-    (is-busy v (met.meets site) (met.apart site) self turn c.requires.0 c.requires.1 c.in-Busy.is)
+    let progress = c.args.progress.now in
+    may-tell v now c.taken_seen-seen.result self progress (may-be-taken v now self c.taken_seen-seen.result c.taken_seen-seen.ensures (c.in-Some.is ∙ ap (λ (q : Asking). Some q) c.in-AllTaken.is))
+    (is-busy v (met.meets site) (met.apart site) self progress c.requires.0 c.requires.1 c.in-Busy.is)
 
 pub returns-in-AllTaken-clause-moves : goal.returns-in-AllTaken-clause-moves
 returns-in-AllTaken-clause-moves g c =
     let site = c.args.site.now in
     let v = view_of (g.R.RunContract.meaning site) (g.R.ServiceContract.serving site) in
     let met = g.met.R.RunContract in
-    let now = c.args.now.0 in
+    let now = c.args.turn.now.moment.0 in
     let self = c.args.self.now in
-    let turn = c.args.turn.now in
+    let progress = c.args.progress.now in
     let seen = c.taken_seen-seen.result in
     ok-map c.tell.result _ _ (λ on goes. λ st did h. goes did (settle (service v) now)
-    (tells v now seen did self turn (settle (service v) now) (may-be-taken v now self seen c.taken_seen-seen.ensures (c.in-Some.is ∙ ap (λ (q : Asking). Some q) c.in-AllTaken.is))
-    (asked-taken v (met.meets site) (met.apart site) now (settle (service v) now) did self turn seen c.taken_seen-seen.ensures
-    (busy-as v (met.meets site) (met.apart site) now (settle (service v) now) did self turn (Some asking.AllTaken) (c.in-Some.is ∙ ap (λ (q : Asking). Some q) c.in-AllTaken.is)
-    (settles-busy v (met.meets site) (met.apart site) now did self turn (busy-at v (met.meets site) (met.apart site) st did self turn (settle (service v) now) c.in-Busy.is h)))))) c.tell.ensures.moves
+    (tells v now seen did self progress (settle (service v) now) (may-be-taken v now self seen c.taken_seen-seen.ensures (c.in-Some.is ∙ ap (λ (q : Asking). Some q) c.in-AllTaken.is))
+    (asked-taken v (met.meets site) (met.apart site) now (settle (service v) now) did self progress seen c.taken_seen-seen.ensures
+    (busy-as v (met.meets site) (met.apart site) now (settle (service v) now) did self progress (Some asking.AllTaken) (c.in-Some.is ∙ ap (λ (q : Asking). Some q) c.in-AllTaken.is)
+    (settles-busy v (met.meets site) (met.apart site) now did self progress (busy-at v (met.meets site) (met.apart site) st did self progress (settle (service v) now) c.in-Busy.is h)))))) c.tell.ensures.moves
 
 pub returns-in-AllTaken-clause-costs : goal.returns-in-AllTaken-clause-costs
 returns-in-AllTaken-clause-costs g c =
     let site = c.args.site.now in
     let v = view_of (g.R.RunContract.meaning site) (g.R.ServiceContract.serving site) in
     let met = g.met.R.RunContract in
-    let now = c.args.now.0 in
+    let now = c.args.turn.now.moment.0 in
     let self = c.args.self.now in
-    let turn = c.args.turn.now in
-    ok-map c.tell.result _ _ (λ on paid. pays-settles g.R.RunContract.left g.R.ServiceContract.bound on self c.tell.new.self turn c.tell.new.turn paid)
-    (c.tell.ensures.costs (ap is_own_turn c.taken_seen-seen.ensures ∙ taken-own v (kept self.client)) (has-run v self turn (is-busy v (met.meets site) (met.apart site) self turn c.requires.0 c.requires.1 c.in-Busy.is)))
+    let progress = c.args.progress.now in
+    ok-map c.tell.result _ _ (λ on paid. pays-settles g.R.RunContract.left g.R.ServiceContract.bound on self c.tell.new.self progress c.tell.new.progress paid)
+    (c.tell.ensures.costs (ap is_own_turn c.taken_seen-seen.ensures ∙ taken-own v (kept self.client)) (has-run v self progress (is-busy v (met.meets site) (met.apart site) self progress c.requires.0 c.requires.1 c.in-Busy.is)))
 
 pub waiting-requires-clause-within : goal.waiting-requires-clause-within
 waiting-requires-clause-within g c =
     let site = c.args.site.now in
     let v = view_of (g.R.RunContract.meaning site) (g.R.ServiceContract.serving site) in
     let met = g.met.R.RunContract in
-    let now = c.args.now.0 in
+    let now = c.args.turn.now.moment.0 in
     let self = c.args.self.now in
-    let turn = c.args.turn.now in
-    is-busy v (met.meets site) (met.apart site) self turn c.requires.0 c.requires.1 c.in-Busy.is
+    let progress = c.args.progress.now in
+    is-busy v (met.meets site) (met.apart site) self progress c.requires.0 c.requires.1 c.in-Busy.is
 
 pub waiting-requires-clause-unasked : goal.waiting-requires-clause-unasked
 waiting-requires-clause-unasked g c = c.in-None.is
@@ -94,21 +94,21 @@ returns-in-None-clause-moves g c =
     let site = c.args.site.now in
     let v = view_of (g.R.RunContract.meaning site) (g.R.ServiceContract.serving site) in
     let met = g.met.R.RunContract in
-    let now = c.args.now.0 in
+    let now = c.args.turn.now.moment.0 in
     let self = c.args.self.now in
-    let turn = c.args.turn.now in
+    let progress = c.args.progress.now in
     ok-map c.waiting.result _ _ (λ on goes. λ st did h. goes did (settle (service v) now)
-    (busy-as v (met.meets site) (met.apart site) now (settle (service v) now) did self turn None c.in-None.is
-    (settles-busy v (met.meets site) (met.apart site) now did self turn (busy-at v (met.meets site) (met.apart site) st did self turn (settle (service v) now) c.in-Busy.is h)))) c.waiting.ensures.moves
+    (busy-as v (met.meets site) (met.apart site) now (settle (service v) now) did self progress None c.in-None.is
+    (settles-busy v (met.meets site) (met.apart site) now did self progress (busy-at v (met.meets site) (met.apart site) st did self progress (settle (service v) now) c.in-Busy.is h)))) c.waiting.ensures.moves
 
 pub returns-in-Flush-clause-moves : goal.returns-in-Flush-clause-moves
 returns-in-Flush-clause-moves g c =
     let site = c.args.site.now in
     let v = view_of (g.R.RunContract.meaning site) (g.R.ServiceContract.serving site) in
     let met = g.met.R.RunContract in
-    ok-map c.flush.result _ _ (λ on goes. λ st did h. goes stage.Flush tt did (settle (service v) c.args.now.0)
-    (settles-flush v (met.meets site) (met.apart site) c.args.now.0 did c.args.self.now c.args.turn.now
-    (flush-at v (met.meets site) (met.apart site) st did c.args.self.now c.args.turn.now (settle (service v) c.args.now.0) c.in-Flush.is h))) c.flush.ensures.moves
+    ok-map c.flush.result _ _ (λ on goes. λ st did h. goes stage.Flush tt did (settle (service v) c.args.turn.now.moment.0)
+    (settles-flush v (met.meets site) (met.apart site) c.args.turn.now.moment.0 did c.args.self.now c.args.progress.now
+    (flush-at v (met.meets site) (met.apart site) st did c.args.self.now c.args.progress.now (settle (service v) c.args.turn.now.moment.0) c.in-Flush.is h))) c.flush.ensures.moves
 
 pub returns-in-Idle-clause-moves : goal.returns-in-Idle-clause-moves
 returns-in-Idle-clause-moves g c = λ st did h.
@@ -116,9 +116,9 @@ returns-in-Idle-clause-moves g c = λ st did h.
     let v = view_of (g.R.RunContract.meaning site) (g.R.ServiceContract.serving site) in
     let met = g.met.R.RunContract in
     let rest = rest-of v (met.meets site) (met.apart site) c.args.self.now.client.stage c.in-Idle.is in
-    let not = not-at v (met.meets site) (met.apart site) c.args.self.now.client.stage st (stage-is v (met.meets site) (met.apart site) st did c.args.self.now c.args.turn.now (settle (service v) c.args.now.0) h) rest.0 rest.1 in
-    done-came v st did c.args.self.now c.args.turn.now
-    (settles-not v (met.meets site) (met.apart site) c.args.now.0 st did c.args.self.now c.args.turn.now not.0 not.1 h)
+    let not = not-at v (met.meets site) (met.apart site) c.args.self.now.client.stage st (stage-is v (met.meets site) (met.apart site) st did c.args.self.now c.args.progress.now (settle (service v) c.args.turn.now.moment.0) h) rest.0 rest.1 in
+    done-came v st did c.args.self.now c.args.progress.now
+    (settles-not v (met.meets site) (met.apart site) c.args.turn.now.moment.0 st did c.args.self.now c.args.progress.now not.0 not.1 h)
 
 pub returns-in-Idle-clause-costs : goal.returns-in-Idle-clause-costs
-returns-in-Idle-clause-costs g c = settles-nothing g.R.RunContract.left g.R.ServiceContract.bound c.args.self.now c.args.turn.now
+returns-in-Idle-clause-costs g c = settles-nothing g.R.RunContract.left g.R.ServiceContract.bound c.args.self.now c.args.progress.now

@@ -28,6 +28,6 @@ returns g c =
     ok-map c.paired.result _ _ (λ pair e.
     let acts = of-ok c.acts_of.result pair.1 _ e.1 c.acts_of.ensures in
     let went = of-ok c.ended.result tt _ acts.1 c.ended.ensures in
-    let f = follows v now c.args.start first.new.self first.new.turn
-    (went-came v went.0 (begun v now c.args.start) first.new.self first.new.turn (of-ok first.result went.0 _ went.1 first.ensures)) in
+    let f = follows v now c.args.start first.new.self first.new.progress
+    (went-came v went.0 (begun v now c.args.start) first.new.self first.new.progress (of-ok first.result went.0 _ went.1 first.ensures)) in
     (subst (λ (k : Connection g.row.R.Denot). Follows v k (Did (Began now c.args.start) ∷ [])) (sym e.0) f.0, acts.0 ∙ f.1)) c.paired.ensures

@@ -1,7 +1,7 @@
 //! Strands that go by scripts, for what no program of Lua asks for yet: turns that are given up, sleep, and memory that is refused (RUN, SLEPT); and until when
 //! the world is asked for events (TWO_SLEEP, TWO_GO).
-use crate::asking::Asking;
-use crate::cases::{EVENTS, Scripted, hold};
+use crate::scripted::asking::Asking;
+use crate::scripted::{EVENTS, Scripted, hold};
 use engine::serve;
 use schedule::schedule_of;
 use std::alloc::Global;

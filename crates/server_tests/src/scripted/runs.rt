@@ -1,7 +1,6 @@
 //! Runs that go by scripts, for what no program of Lua asks for yet: two threads of a run, of which one asks its connection something; and a count in a
 //! dictionary.
-use crate::cases::{Scripted, hold};
-use crate::words::{number, word};
+use crate::scripted::{Scripted, hold};
 use connection_strand::Connection;
 use resty_base::{Bytes, Ms};
 use run_contract::{Asking, LocationTimes};
@@ -304,11 +303,17 @@ fn step(alloc: Global, texts: &str) -> Result<Step, AllocError> {
 
 /// Those for the next request, for the body, and for what the client takes.
 fn times(text: &str) -> LocationTimes {
+    let mut times = text.split(' ').map(|word| Ms(number(word)));
     LocationTimes {
-        keepalive: Ms(number(word(text, 0))),
-        body: Ms(number(word(text, 1))),
-        send: Ms(number(word(text, 2))),
+        keepalive: times.next().unwrap_or(Ms(0)),
+        body: times.next().unwrap_or(Ms(0)),
+        send: times.next().unwrap_or(Ms(0)),
     }
+}
+
+/// The number that a word writes, 0 where it writes none.
+fn number(word: &str) -> u64 {
+    word.parse().unwrap_or(0)
 }
 
 #[test]

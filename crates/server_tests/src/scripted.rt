@@ -1,5 +1,7 @@
-//! Cases as texts: what comes, and what the engine does then, for strands that go by a text.
-use crate::words::{expect, put};
+//! Strands that go by scripts, for what no program of Lua asks for yet, as cases: what comes, and what the engine does then.
+//!
+//! `sleepers` are strands of scripts, `runs` connections of scripted runs, and `asking` is a world that keeps until when it was asked for events.
+use crate::rows::{expect, put, put_lines};
 use engine::serve;
 use resty_base::{Bytes, Ms};
 use schedule::{Replay, history_text, schedule_of};
@@ -9,21 +11,25 @@ use std::rc::Rc;
 use strand_contract::StrandContract;
 use strand_scripts::{Op, Program, ScriptStrand, Site};
 
+mod asking;
+mod runs;
+mod sleepers;
+
 /// How many connections may be open at a time.
 const CONNECTIONS: u32 = 3;
 
 /// More events than any case has.
-pub(crate) const EVENTS: u64 = 100;
+const EVENTS: u64 = 100;
 
 /// Strands that go by a text.
-pub(crate) trait Scripted: StrandContract {
+trait Scripted: StrandContract {
     /// The site of this text.
     fn site(alloc: Global, text: &str) -> Result<Self::Site, AllocError>;
 }
 
 /// Tests each case; an empty line stands between two. A line of a case that begins with `> ` is what the engine does, one that
 /// begins with `< ` stands in the schedule alone, and any other is given: it stands in the schedule and in the history.
-pub(crate) fn hold<S: Scripted>(rt: &impl Abort, alloc: Global, text: &str, cases: &str) {
+fn hold<S: Scripted>(rt: &impl Abort, alloc: Global, text: &str, cases: &str) {
     for case in cases.split("\n\n") {
         expect(rt, unlike::<S>(alloc, text, case).as_str(), "", case);
     }
@@ -43,16 +49,6 @@ fn unlike<S: Scripted>(alloc: Global, text: &str, case: &str) -> String {
         String::new(alloc)
     } else {
         seen
-    }
-}
-
-/// Writes the lines of a case that begin with a mark, and those without one, but not those that begin with the other mark.
-fn put_lines(all: &mut String, case: &str, mark: &str, other: &str) {
-    for line in case.lines() {
-        if !line.starts_with(other) {
-            put(all, line.strip_prefix(mark).unwrap_or(line));
-            put(all, "\n");
-        }
     }
 }
 
