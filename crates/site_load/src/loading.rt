@@ -1,11 +1,14 @@
 //! The loading of a site.
 
-ghost use Rattle.std.specs.Prelude.{◌≡◌, IfOk, IfErr, OnOk, IfSome};
+ghost use Rattle.std.specs.Prelude.{◌≡◌, ℕ, List, None, IfOk, IfErr, OnOk, IfSome};
 ghost use Rattle.conf.specs.Reading.{IsWhole};
+ghost use Rattle.site_check.specs.Sites.{IsRead};
+ghost use Rattle.site_load.specs.Handlers.{unbuilt_line};
 ghost use Rattle.site_load.specs.Loading as spec;
-ghost use Rattle.site_load.specs.Loading.{HasSite, NotLoaded, Says, IsRefusedAs, IsUnread, most_bytes};
+ghost use Rattle.site_load.specs.Loading.{HasBlocks, HasSite, NotLoaded, Says, IsRefusedAs, IsUnread, most_bytes};
 ghost use Rattle.lua_modules.specs.TextsOfFiles.{Holds, ReadsWell};
 ghost use Rattle.site_load.specs.Views.{site_of};
+ghost use Rattle.site_load.specs.declared.faults.SiteFault.TheVariants.{Memory};
 
 use crate::SiteFault;
 use crate::chunks::set_of;
@@ -66,15 +69,70 @@ fn read_texts(alloc: Global, file: Bytes, text: &[u8]) -> Result<SiteTexts, Site
     ensures whole { IfOk result (λ texts. IsWhole texts.conf) }
     ensures err { IfErr result (IsRefusedAs file text.now) }
 {
-    let SiteRead { conf, programs } = match read_site(alloc, text) {
-        Ok(read) => read,
-        Err(fault) => return Err(refusal(file, fault)),
-    };
-    if let Some(line) = unbuilt_line(alloc, &conf)? {
-        return Err(SiteFault::NotBuilt(file, line));
+    match read_site(alloc, text) {
+        Ok(read) => texts_of(alloc, file, read),
+        Err(fault) => Err(refusal(file, fault)),
     }
-    let set = set_of(alloc, &file, programs)?;
-    Ok(SiteTexts { conf, set })
+}
+
+/// The texts of a site that is read, of which `file` is the name, if each of its blocks is run.
+fn texts_of(alloc: Global, file: Bytes, read: SiteRead) -> Result<SiteTexts, SiteFault>
+    requires { IsWhole read.conf }
+    ensures ok { (text : List ℕ) → IsRead text read.conf read.programs.items → IfOk result (λ texts. Says file text texts.conf texts.set) }
+    ensures whole { IfOk result (λ texts. IsWhole texts.conf) }
+    ensures err { (text : List ℕ) → IsRead text read.conf read.programs.items → IfErr result (IsRefusedAs file text) }
+{
+    match unbuilt_line(alloc, &read.conf) {
+        Ok(None) => with_chunks(alloc, file, read),
+        Ok(Some(line)) => {
+            drop(read);
+            Err(SiteFault::NotBuilt(file, line))
+        }
+        Err(_) => {
+            drop(read);
+            Err(SiteFault::Memory)
+        }
+    }
+}
+
+/// The texts of a site that is read, of which `file` is the name.
+fn with_chunks(alloc: Global, file: Bytes, read: SiteRead) -> Result<SiteTexts, SiteFault>
+    requires whole { IsWhole read.conf }
+    requires built { unbuilt_line read.conf ≡ None }
+    ensures ok { (text : List ℕ) → IsRead text read.conf read.programs.items → IfOk result (λ texts. Says file text texts.conf texts.set) }
+    ensures whole { IfOk result (λ texts. IsWhole texts.conf) }
+    ensures err { (text : List ℕ) → IsRead text read.conf read.programs.items → IfErr result (IsRefusedAs file text) }
+{
+    let SiteRead { conf, programs } = read;
+    match set_of(alloc, &file, programs) {
+        Ok(set) => Ok(SiteTexts { conf, set }),
+        Err(fault) => {
+            drop(conf);
+            Err(fault)
+        }
+    }
+}
+
+/// The name of a file as bytes.
+fn name_of(alloc: Global, name: &str) -> Result<Bytes, SiteFault>
+    ensures ok { IfOk result (λ file. file ≡ name.now) }
+    ensures err { IfErr result (λ fault. fault ≡ Memory) }
+{
+    Ok(Bytes::from_vec(Vec::from_slice(alloc, name.as_bytes())?)?)
+}
+
+/// Reads the configuration in the file of this name, and the grammar of its blocks of Lua.
+fn read_conf<F: Files>(alloc: Global, files: &mut F, name: &str) -> Result<SiteTexts, SiteFault>
+    ensures ok { IfOk result (λ texts. IfSome (F.account files.old).told (λ held. HasBlocks held name.now texts.conf texts.set)) }
+    ensures whole { IfOk result (λ texts. IsWhole texts.conf) }
+    ensures err { IfErr result (NotLoaded name.now (F.account files.old) (F.account files.new)) }
+    ensures well { OnOk result (ReadsWell (F.account files.old) (F.account files.new)) }
+{
+    let file = name_of(alloc, name)?;
+    let text = read_file(alloc, files, name, &file)?;
+    let texts = read_texts(alloc, file, text.as_slice());
+    drop(text);
+    texts
 }
 
 /// What the fault of a chunk is as one of a text of a site.
@@ -113,11 +171,13 @@ pub fn load_site<F: Files>(
     ensures err { IfErr result (NotLoaded name.now (F.account files.old) (F.account files.new)) }
     ensures well { OnOk result (ReadsWell (F.account files.old) (F.account files.new)) }
 {
-    let file = Bytes::from_vec(Vec::from_slice(alloc, name.as_bytes())?)?;
-    let text = read_file(alloc, files, name, &file)?;
-    let SiteTexts { conf, mut set } = read_texts(alloc, file, text.as_slice())?;
+    let SiteTexts { conf, mut set } = read_conf(alloc, files, name)?;
     match read_modules(alloc, files, &conf.package, &mut set) {
         Ok(()) => start_site(alloc, conf, set),
-        Err(fault) => Err(of_modules(fault)),
+        Err(fault) => {
+            drop(conf);
+            drop(set);
+            Err(of_modules(fault))
+        }
     }
 }

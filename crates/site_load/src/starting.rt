@@ -1,10 +1,15 @@
 //! The start of a site.
 
-ghost use Rattle.std.specs.Prelude.{◌≡◌, IfOk, IfErr};
+ghost use Rattle.std.specs.Prelude.{◌≡◌, ◌++◌, Err, IfOk, IfErr};
 ghost use Rattle.conf.specs.Reading.{IsWhole};
+ghost use Rattle.conf.specs.declared.sites.Conf.{Conf};
+ghost use Rattle.lua_modules.specs.Sets.{lists_of};
+ghost use Rattle.lua_modules.specs.declared.sets.ModuleSet.{ModuleSet};
 ghost use Rattle.lua_run.specs.Views.{site_seen};
+ghost use Rattle.lua_site.specs.Started.{IsStart};
 ghost use Rattle.site_load.specs.Starts as spec;
-ghost use Rattle.site_load.specs.Starts.{StartsAs, IsStartFault};
+ghost use Rattle.site_load.specs.Starts.{StartsAs, IsStartFault, start_of};
+ghost use Rattle.site_load.specs.declared.faults.SiteFault.TheVariants.{Memory};
 ghost use Rattle.site_load.specs.Programs.{life_of};
 
 use crate::SiteFault;
@@ -25,6 +30,34 @@ fn init_among(count: usize, init: Option<u32>) -> Option<u32>
     }
 }
 
+/// What the fault of a start is as one of a site.
+fn of_start(fault: LuaSiteFault) -> SiteFault
+    ensures { (conf : Conf) (set : ModuleSet) → IsStart (start_of conf set.program (lists_of set)) (Err fault) → IsStartFault conf set result }
+{
+    match fault {
+        LuaSiteFault::Init(message) => SiteFault::Init(message),
+        LuaSiteFault::Memory => SiteFault::Memory,
+    }
+}
+
+/// A site that begins with the closures of its blocks.
+fn with_blocks(
+    mut site: Site<SiteMachine>,
+    blocks: Vec<u32>,
+) -> Result<Site<SiteMachine>, SiteFault>
+    ensures kept { IfOk result (λ begun. (begun.conf ≡ site.conf) × (begun.machine ≡ site.machine) × (begun.store ≡ site.store)) }
+    ensures blocks { IfOk result (λ begun. begun.blocks ≡ site.blocks ++ blocks.items) }
+    ensures err { IfErr result (λ fault. fault ≡ Memory) }
+{
+    match site.blocks.append(blocks) {
+        Ok(()) => Ok(site),
+        Err(_) => {
+            drop(site);
+            Err(SiteFault::Memory)
+        }
+    }
+}
+
 /// Starts the site of a configuration that has these chunks.
 pub(crate) fn start_site(
     alloc: Global,
@@ -38,18 +71,22 @@ pub(crate) fn start_site(
     let (program, chunks) = set.into_parts();
     let machine = machine_of(program);
     let init = init_among(chunks.blocks.as_slice().len(), conf.init);
-    match start_lua(alloc, &machine, NATIVES, &chunks, init) {
+    let started = start_lua(alloc, &machine, NATIVES, &chunks, init);
+    drop(chunks);
+    match started {
         Ok(LuaSite { store, blocks }) => {
-            let mut closures = Listing::new(alloc);
-            closures.append(blocks)?;
-            Ok(Site {
+            let site = Site {
                 conf,
                 machine,
                 store,
-                blocks: closures,
-            })
+                blocks: Listing::new(alloc),
+            };
+            with_blocks(site, blocks)
         }
-        Err(LuaSiteFault::Init(message)) => Err(SiteFault::Init(message)),
-        Err(LuaSiteFault::Memory) => Err(SiteFault::Memory),
+        Err(fault) => {
+            drop(conf);
+            drop(machine);
+            Err(of_start(fault))
+        }
     }
 }
