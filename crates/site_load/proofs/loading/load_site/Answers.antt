@@ -22,7 +22,7 @@ returns-in-Ok-clause-well g c =
     on_ok c.start_site.result _ (well_on (g.F.Files.account c.args.files.now) (g.F.Files.account c.read_conf.new.files) (g.F.Files.account c.read_modules.new.files)
     c.in_ok-conf.ensures.well c.in-Ok.ensures.fares)
 
-pub returns-clause-err : goal.returns-clause-err
-returns-clause-err g c =
+pub returns-in-Err-clause-err : goal.returns-in-Err-clause-err
+returns-in-Err-clause-err g c =
     rw c.of_modules.ensures (no_modules c.args.name.now c.in_ok-conf.field-0.conf c.in_ok-conf.field-0.set (g.F.Files.account c.args.files.now) (g.F.Files.account c.read_conf.new.files)
     c.in_ok-conf.ensures.well c.in_ok-conf.ensures.ok c.read_modules.new.set (g.F.Files.account c.read_modules.new.files) c.in-Err.fault c.in-Err.ensures.stops c.in-Err.ensures.fares)

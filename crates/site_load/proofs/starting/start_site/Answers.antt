@@ -17,8 +17,8 @@ returns-in-Ok-clause-ok c =
 pub returns-in-Ok-clause-err : goal.returns-in-Ok-clause-err
 returns-in-Ok-clause-err c = out_of_memory c.args.conf c.args.set c.with_blocks.result c.with_blocks.ensures.err
 
-pub returns-clause-err : goal.returns-clause-err
-returns-clause-err c =
+pub returns-in-Err-clause-err : goal.returns-in-Err-clause-err
+returns-in-Err-clause-err c =
     let program = c.machine_of-machine.ensures ∙ c.into_parts-program.ensures.program in
     let chunks = c.into_parts-program.result.1 in
     let same = starts c.args.conf c.args.set c.machine_of-machine.result.program (chunks_of chunks) (length c.as_slice.result.now) c.init_among-init.result _ program
