@@ -12,10 +12,19 @@ use lua_values::{NativeOut, Natives, Store, Value, Values};
 use std::alloc::{AllocError, Global};
 
 /// A program with a library of functions of the host.
-#[derive(Drop)]
 pub struct Loaded<N: Natives> {
     pub program: Program,
     pub natives: N,
+}
+
+/// Written out, so that a crate that drops one needs no proof of how programs are dropped.
+impl<N: Natives + Drop> Drop for Loaded<N> {
+    fn drop(self) {
+        let Loaded {
+            program: _,
+            natives: _,
+        } = self;
+    }
 }
 
 impl<N: Natives> Host for Loaded<N> {
