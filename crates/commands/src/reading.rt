@@ -23,7 +23,9 @@ pub fn read_schedule<F: Files>(alloc: Global, files: &mut F, name: &str) -> Resu
     ensures well { OnOk result (ReadsWell (F.account files.old) (F.account files.new)) }
 {
     let text = read_text(alloc, files, name)?;
-    match schedule_of(alloc, text.as_slice()) {
+    let read = schedule_of(alloc, text.as_slice());
+    drop(text);
+    match read {
         Ok(schedule) => Ok(schedule),
         Err(SchedFault::BadLine(line)) => Err(Ending::BadLine(line)),
         Err(SchedFault::Memory) => Err(Ending::Memory),

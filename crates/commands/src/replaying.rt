@@ -34,7 +34,10 @@ pub fn replayed(
     let ended = serve::<Connection<LuaRun<SiteMachine>>, Replay>(alloc, site, &mut world, events);
     stop_ends_the_schedule();
     match ended {
-        Ended::Memory => Err(AllocError),
+        Ended::Memory => {
+            drop(world);
+            Err(AllocError)
+        }
         ended => Ok(ServedReplay { world, ended }),
     }
 }

@@ -25,8 +25,14 @@ pub fn serve_live<W: World>(
 {
     match live.listen(alloc, site.conf.port) {
         Listened::Up => {}
-        Listened::Failed => return Ending::WorldFault,
-        Listened::Memory => return Ending::Memory,
+        Listened::Failed => {
+            drop(site);
+            return Ending::WorldFault;
+        }
+        Listened::Memory => {
+            drop(site);
+            return Ending::Memory;
+        }
     }
     Ending::by(serve::<Connection<LuaRun<SiteMachine>>, W>(alloc, site, live, events))
 }

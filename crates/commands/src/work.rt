@@ -70,7 +70,10 @@ fn replay<F: Files, O: Sink>(
 {
     match read_schedule(alloc, files, command.schedule) {
         Ok(schedule) => serve_and_write(alloc, site, schedule, command.events, out),
-        Err(ending) => ending,
+        Err(ending) => {
+            drop(site);
+            ending
+        }
     }
 }
 
@@ -86,7 +89,11 @@ fn serve_and_write<O: Sink>(
     ensures { WritesHistoryOf (site_of site) events schedule result (O.account out.old) (O.account out.new) }
 {
     match replayed(alloc, site, schedule, events) {
-        Ok(run) => write_history(alloc, run.ended, run.world.history(), out),
+        Ok(run) => {
+            let ending = write_history(alloc, run.ended, run.world.history(), out);
+            drop(run);
+            ending
+        }
         Err(_) => Ending::Memory,
     }
 }

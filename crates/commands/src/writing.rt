@@ -20,7 +20,9 @@ pub fn write_history<O: Sink>(alloc: Global, ended: Ended, history: &History, ou
         Ok(text) => text,
         Err(_) => return Ending::Memory,
     };
-    if put_all(out, text.as_slice()).is_err() {
+    let put = put_all(out, text.as_slice());
+    drop(text);
+    if put.is_err() {
         return Ending::NotWritten;
     }
     ending_with(ended, drops_strand(history))
