@@ -5,6 +5,8 @@ use Rattle.site_load.specs.declared.faults.SiteFault.{SiteFault}
 use Rattle.site_load.specs.declared.faults.SiteFault.TheVariants as fault
 use Rattle.commands.specs.declared.endings.Ending.{Ending}
 use Rattle.commands.specs.declared.endings.Ending.TheVariants as ending
+use Rattle.commands.specs.declared.messages.Line.{Line}
+use Rattle.commands.specs.declared.messages.Line.TheVariants as line
 
 -- what is written of a site that is checked
 abbrev pub site_ok : List ℕ
@@ -20,6 +22,13 @@ memory_line = codes "resty: out of memory\n"
 -- the line that names a file, the number of a line of it, and what is wrong there
 abbrev pub fault_line : List ℕ → List ℕ → List ℕ → List ℕ
 fault_line name line text = codes "resty: " ++ (name ++ (codes ": line " ++ (line ++ (codes ": " ++ (text ++ codes "\n")))))
+
+-- a line, from its pieces
+abbrev pub bytes_of : Line → List ℕ
+bytes_of line.None = []
+bytes_of (line.Text text) = text
+bytes_of (line.Joined before name behind) = before ++ name ++ behind
+bytes_of (line.At name number text) = fault_line name (decimal number) text
 
 -- the lines that say that there is no file of this name, that it is too long, and that it can't be read
 abbrev pub missing_line : List ℕ → List ℕ

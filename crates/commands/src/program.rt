@@ -2,17 +2,19 @@
 
 ghost use Rattle.std.specs.Prelude.{◌≡◌, ◌↔◌};
 ghost use Rattle.engine_base.specs.Right.{IsFresh};
-ghost use Rattle.resty_base.specs.Taking.{TakesNothing};
+ghost use Rattle.resty_base.specs.Taking.{Takes, TakesNothing};
+ghost use Rattle.commands.specs.Ending.{status_of};
 ghost use Rattle.commands.specs.Ends.{Ends, IsJudged, IsComplete};
 ghost use Rattle.commands.specs.Live.{Leaves};
+ghost use Rattle.commands.specs.Messages.{line_of};
 ghost use Rattle.commands.specs.Outside.{outside};
 ghost use Rattle.commands.specs.Words.{texts, AsksToServe, Command, Says, IsForm};
 ghost use Rattle.commands.specs.Writing.{Writes};
 
 use crate::command_line::command_of;
-use crate::endings::Status;
+use crate::endings::{Ending, Status};
 use crate::laws::one_status;
-use crate::messages::{put_line, put_usage};
+use crate::messages::put_line;
 use crate::work::work;
 use resty_base::{Files, Sink};
 use resty_world::World;
@@ -44,11 +46,20 @@ pub fn resty<F: Files, W: World, O: Sink, E: Sink>(
     ensures idle { ¬ (IsForm (texts words.now)) → (live.new ≡ live.old) × TakesNothing (O.account out.old) (O.account out.new) }
 {
     one_status();
-    let Some(command) = command_of(words) else {
-        let _ = put_usage(err);
-        return Status::Usage;
-    };
-    let ending = work(alloc, &command, files, live, out);
-    let _ = put_line(err, command.schedule, &ending);
+    match command_of(words) {
+        Some(command) => {
+            let ending = work(alloc, &command, files, live, out);
+            told(err, command.schedule, ending)
+        }
+        None => told(err, "", Ending::Usage),
+    }
+}
+
+/// Says on `err` how the work ended on a command whose schedule has this name, and gives the status.
+fn told<E: Sink>(err: &mut E, schedule: &str, ending: Ending) -> Status
+    ensures line { Takes (line_of schedule.now ending) (E.account err.old) (E.account err.new) }
+    ensures status { result ≡ status_of ending }
+{
+    let _ = put_line(err, schedule, &ending);
     ending.status()
 }
