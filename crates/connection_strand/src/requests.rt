@@ -6,9 +6,8 @@ use crate::waits::Waits;
 use client_line::{Held, LineOut};
 use connection_plan::ServiceContract;
 use http_in::Head;
-use resty_base::Ms;
 use run_contract::RunSeen;
-use std::alloc::{AllocError, Global};
+use std::alloc::AllocError;
 use strand_contract::{Act, Place};
 use uri_args::Target;
 

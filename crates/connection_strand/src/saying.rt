@@ -6,7 +6,7 @@ ghost use Rattle.connection_plan.specs.Turns.{continue_reply};
 use crate::client::{Reply, Stage, Timer};
 use crate::state::{Connection, Progress, Turn, both};
 use connection_plan::ServiceContract;
-use resty_base::{Bytes, Ms};
+use resty_base::Bytes;
 use run_contract::Said;
 use std::alloc::AllocError;
 

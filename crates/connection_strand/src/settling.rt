@@ -3,9 +3,8 @@
 use crate::client::{Stage, Timer};
 use crate::state::{Connection, Progress, Turn, going};
 use connection_plan::ServiceContract;
-use resty_base::Ms;
 use run_contract::{Asking, RunSeen};
-use std::alloc::{AllocError, Global};
+use std::alloc::AllocError;
 
 impl<R: ServiceContract> Connection<R> {
     ghost use Rattle.std.specs.Prelude.{◌≡◌, true, is_some, IfOk, Some, None};

@@ -5,9 +5,9 @@ use crate::sights::{Event, Sight, Taking, sight_of};
 use crate::state::{Connection, Progress, Turn, both, ended, going};
 use client_line::LineOut;
 use connection_plan::ServiceContract;
-use resty_base::{Bytes, Ms};
+use resty_base::Bytes;
 use run_contract::{RunSeen, SockSeen};
-use std::alloc::{AllocError, Global};
+use std::alloc::AllocError;
 use strand_contract::Seen;
 
 /// Nothing is done with an answer.

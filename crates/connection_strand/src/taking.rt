@@ -5,9 +5,8 @@ ghost use Rattle.connection_strand.specs.Acts.{is_question, kept_with, sockets_a
 
 use crate::state::{Connection, Progress, Turn, going, put};
 use connection_plan::ServiceContract;
-use resty_base::Ms;
 use run_contract::{RunAct, RunSeen, RunTurn};
-use std::alloc::{AllocError, Global};
+use std::alloc::AllocError;
 use strand_contract::{Act, Answer, Place};
 
 /// Whether the act is a question, which ends a turn.
@@ -39,11 +38,11 @@ pub(crate) fn take_out(numbers: &mut Vec<u32>, number: u32)
 }
 
 impl<R: ServiceContract> Connection<R> {
-    ghost use Rattle.std.specs.Prelude.{◌∷◌, ◌+◌, ◌*◌, length, not, true, IfOk, Ok, Some};
+    ghost use Rattle.std.specs.Prelude.{◌∷◌, ◌+◌, ◌*◌, not, true, IfOk, Ok, Some};
     ghost use Rattle.run_contract.specs.Calls as runs;
     ghost use Rattle.run_contract.specs.Calls.{size_of};
     ghost use Rattle.run_contract.specs.declared.turns.RunTurn.{RunTurn};
-    ghost use Rattle.connection_strand.specs.Views.{view_of, service};
+    ghost use Rattle.connection_strand.specs.Views.{view_of};
     ghost use Rattle.connection_strand.specs.Costs.{unit, Spends, Pays};
     ghost use Rattle.connection_strand.specs.Turns.{TakesTurn, TakesPart, Tells, Gives};
 

@@ -3,7 +3,6 @@
 use crate::client::{Timer, later};
 use crate::state::{Connection, Progress, Turn, put, put_if};
 use connection_plan::ServiceContract;
-use resty_base::Ms;
 use std::alloc::AllocError;
 use strand_contract::Act;
 

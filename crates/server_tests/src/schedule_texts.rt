@@ -6,7 +6,6 @@ use resty_world::{Entry, History};
 use schedule_text::*;
 use std::alloc::{AllocError, Global};
 use std::process::Abort;
-use std::test::Fail;
 
 mod texts;
 mod values;

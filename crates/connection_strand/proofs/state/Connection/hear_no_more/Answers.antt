@@ -1,4 +1,4 @@
-use Rattle.std.proofs.Common.{Bool, true, false, refl, sym, subst, arith}
+use Rattle.std.proofs.Common.{Bool, true, refl, sym, subst, arith}
 use Rattle.client_line.specs.declared.requests.LineOut.TheVariants as out
 use Rattle.client_line.specs.Lines.{held_in}
 use Rattle.strand_plans.specs.Moves.{Done}

@@ -1,14 +1,12 @@
-use Rattle.std.proofs.Common.{◌+◌, ◌*◌, ◌∷◌, None, false, length, refl, sym, ap, subst, arith}
+use Rattle.std.proofs.Common.{◌+◌, ◌*◌, ◌∷◌, false, length, refl, sym, ap, subst, arith}
 use Rattle.run_contract.specs.declared.turns.Said.TheVariants as said
 use Rattle.run_contract.specs.declared.turns.RunAct.TheVariants as made
 use Rattle.run_contract.specs.Deeds.{Say}
 use Rattle.connection_plan.specs.Clients.{begun, with_times, Whole}
-use Rattle.connection_plan.specs.Clients as stage
 use Rattle.connection_plan.specs.Timers as timer
-use Rattle.connection_plan.specs.Turns.{send, end_timer, change}
+use Rattle.connection_plan.specs.Turns.{send, end_timer}
 use Rattle.connection_strand.specs.Views.{view_of, service}
 use Rattle.connection_strand.specs.declared.client.Reply.TheVariants as replies
-use Rattle.connection_strand.specs.declared.client.Stage.TheVariants as code
 use Rattle.connection_strand.specs.Costs.{unit, units, client_left}
 use Rattle.connection_strand.specs.Kept.{kept}
 use Rattle.connection_strand.specs.Kept as keeps
@@ -17,7 +15,7 @@ use Rattle.connection_strand.specs.Turns.{HearsWord}
 use Rattle.connection_strand.proofs.Costing.{spends-nothing}
 use Rattle.connection_strand.proofs.Ends.{ok-map}
 use Rattle.connection_strand.proofs.Paying.{unit-holds, unit-some, spends-more, spends-same, begins-reply}
-use Rattle.connection_strand.proofs.Speaking.{changes, said-so, flushes}
+use Rattle.connection_strand.proofs.Speaking.{changes, said-so}
 use Rattle.connection_strand.proofs.state.Connection.hear_word.Goals as goal
 
 pub returns-in-Send-clause-moves : goal.returns-in-Send-clause-moves
