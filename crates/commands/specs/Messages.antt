@@ -26,9 +26,9 @@ fault_line name line text = codes "resty: " ++ (name ++ (codes ": line " ++ (lin
 -- a line, from its pieces
 abbrev pub bytes_of : Line → List ℕ
 bytes_of line.None = []
-bytes_of (line.Text text) = text
-bytes_of (line.Joined before name behind) = before ++ name ++ behind
-bytes_of (line.At name number text) = fault_line name (decimal number) text
+bytes_of (line.Text text) = text.now
+bytes_of (line.Joined before name behind) = before.now ++ name.now ++ behind.now
+bytes_of (line.At name number text) = fault_line name.now (decimal number) text.now
 
 -- the lines that say that there is no file of this name, that it is too long, and that it can't be read
 abbrev pub missing_line : List ℕ → List ℕ

@@ -34,9 +34,9 @@ pub(crate) enum Line<'a> {
     /// There is none.
     None,
     /// One that names nothing.
-    Text(&'static [u8]),
+    Text(&'a [u8]),
     /// A name or a message, between what stands before and behind it.
-    Joined(&'static [u8], &'a [u8], &'static [u8]),
+    Joined(&'a [u8], &'a [u8], &'a [u8]),
     /// A file, the number of a line of it, and what is wrong there.
     At(&'a [u8], u64, &'a [u8]),
 }
@@ -51,8 +51,8 @@ pub fn put_line<E: Sink>(err: &mut E, schedule: &str, ending: &Ending) -> Result
 
 /// Puts a line.
 fn put<'a, E: Sink>(err: &mut E, line: Line<'a>) -> Result<(), SinkFault>
-    ensures ok { OnOk result (TakesAll (bytes_of line) (E.account err.old) (E.account err.new)) }
-    ensures err { OnErr result (TakesPart (bytes_of line) (E.account err.old) (E.account err.new)) }
+    ensures ok { OnOk result (TakesAll (bytes_of line.entry) (E.account err.old) (E.account err.new)) }
+    ensures err { OnErr result (TakesPart (bytes_of line.entry) (E.account err.old) (E.account err.new)) }
 {
     match line {
         Line::None => Ok(()),
