@@ -1,6 +1,5 @@
 -- Tests, what holds where something is there, and the names of strands.
-use Rattle.std.proofs.Common.{◌≡◌, Option, Some, None, IfSome}
-use Rattle.resty_base.specs.declared.names.StrandId.TheVariants as strand
+use Rattle.std.proofs.Common.{Option, Some, None, IfSome}
 
 -- what follows from what is there, where it is
 pub weaker_some : {X : Type 0} (o : Option X) (P Q : X → Type 0) → ((x : X) → P x → Q x) → IfSome o P → IfSome o Q

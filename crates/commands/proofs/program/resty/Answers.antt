@@ -1,5 +1,4 @@
-use Rattle.std.proofs.Common.{refl, subst}
-use Rattle.commands.specs.declared.endings.Status.TheVariants as status
+use Rattle.std.proofs.Common.{subst}
 use Rattle.commands.specs.Ends.{no_command, worked}
 use Rattle.commands.specs.Live.{Leaves}
 use Rattle.commands.specs.Outside.{outside}
@@ -12,17 +11,17 @@ use Rattle.commands.proofs.program.resty.Goals as goal
 
 pub returns-in-None-clause-ending : goal.returns-in-None-clause-ending
 returns-in-None-clause-ending g c =
-    no_command c.in-None.ensures.none c.told.ensures.status c.told.ensures.line
+    no_command c.in-None.ensures.none c.told-in-None.ensures.status c.told-in-None.ensures.line
 
 pub returns-in-None-clause-judged : goal.returns-in-None-clause-judged
 returns-in-None-clause-judged g c =
     let now = outside (g.F.Files.account c.args.files.now) (g.W.World.book c.args.live.now) (g.O.Sink.account c.args.out.now) in
-    judged_usage c.one_status.ensures (texts c.args.words.now) now now c.in-None.ensures.none
+    rw c.told-in-None.ensures.status (judged_usage c.one_status.ensures (texts c.args.words.now) now now c.in-None.ensures.none)
 
 pub returns-in-None-clause-complete : goal.returns-in-None-clause-complete
 returns-in-None-clause-complete g c =
     let now = outside (g.F.Files.account c.args.files.now) (g.W.World.book c.args.live.now) (g.O.Sink.account c.args.out.now) in
-    complete (texts c.args.words.now) now now status.Usage (returns-in-None-clause-judged g c)
+    complete (texts c.args.words.now) now now c.told-in-None.result (returns-in-None-clause-judged g c)
 
 pub work-ending-requires : goal.work-ending-requires
 work-ending-requires g c = λ serves. c.requires (said c.in-Some.command, c.in-Some.ensures.some, serves)
